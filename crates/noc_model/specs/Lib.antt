@@ -1,0 +1,15 @@
+pub mod Plan
+pub mod PlanOf
+pub mod Sound
+pub mod Place
+pub mod Pick
+pub mod Tile
+pub mod Step
+pub mod Run
+pub mod Events
+pub mod Report
+pub mod Driver
+pub mod Shared
+pub mod Walk
+pub mod Laws
+pub mod SoundState

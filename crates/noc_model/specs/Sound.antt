@@ -1,0 +1,57 @@
+-- What holds of every accepted plan.
+use Rattle.std.specs.Prelude.{◌≡◌, ◌≢◌, ℕ, ◌^◌, ◌<◌, ◌≤◌, ◌⊎◌, List, length, All, AllPairs, Contains}
+use Rattle.noc_model.specs.declared.plan.DomainPart.{DomainPart}
+use Rattle.noc_model.specs.declared.Host.{Host}
+use Rattle.noc_model.specs.declared.Range.{Range}
+use Rattle.noc_model.specs.Plan.{Plan, tiles, places}
+
+-- one or more tiles along each side, and 16 at most
+abbrev pub AreSides : List ℕ → Type 0
+AreSides ks = All (λ k. (1 ≤ k) × (k ≤ 16)) ks
+
+-- the channels of each class, of each domain
+abbrev pub HaveChannels : List DomainPart → Type 0
+HaveChannels xs = All (λ (x : DomainPart). (1 ≤ x.channels) × (x.channels ≤ 4)) xs
+
+-- a digit, a letter, `_` or `-`, in ASCII
+abbrev pub IsNameByte : ℕ → Type 0
+IsNameByte b = ((48 ≤ b) × (b ≤ 57)) ⊎ ((65 ≤ b) × (b ≤ 90)) ⊎ ((97 ≤ b) × (b ≤ 122)) ⊎ (b ≡ 95) ⊎ (b ≡ 45)
+
+-- 1 to 16 bytes of a name
+abbrev pub IsName : List ℕ → Type 0
+IsName bs = (1 ≤ length bs) × (length bs ≤ 16) × All IsNameByte bs
+
+-- by tile, then by domain
+abbrev pub IsBefore : Host → Host → Type 0
+IsBefore h k = (h.tile < k.tile) ⊎ ((h.tile ≡ k.tile) × (h.domain < k.domain))
+
+-- a range of a tile of n, with at least one address, and none of more than 32 bits
+abbrev pub IsRangeIn : ℕ → Range → Type 0
+IsRangeIn n r = (r.tile < n) × (r.first ≤ r.last) × (r.last < 2 ^ 32)
+
+-- no address is in both
+abbrev pub AreApart : Range → Range → Type 0
+AreApart q r = (q.last < r.first) ⊎ (r.last < q.first)
+
+pub record IsSound (p : Plan) : Type 0 where
+  pub dims : (1 ≤ length p.dims) × (length p.dims ≤ 3)
+  pub sides : AreSides p.dims
+  pub tile_count : tiles p ≤ 256
+  pub stages : (1 ≤ p.stages) × (p.stages ≤ 4)
+  pub buffer : (1 ≤ p.buffer) × (p.buffer ≤ 16)
+  pub domains : (1 ≤ length p.domains) × (length p.domains ≤ 16)
+  pub names : All (λ (x : DomainPart). IsName x.name) p.domains
+  -- no two domains have one name
+  pub names_apart : AllPairs (λ (x y : DomainPart). x.name ≢ y.name) p.domains
+  pub channels : HaveChannels p.domains
+  pub hosts : All (λ (h : Host). (h.tile < tiles p) × (h.domain < length p.domains)) p.hosts
+  pub hosts_in_order : AllPairs IsBefore p.hosts
+  pub host_count : length p.hosts ≤ 256
+  pub ranges : All (IsRangeIn (tiles p)) p.ranges
+  pub ranges_apart : AllPairs AreApart p.ranges
+  pub range_count : length p.ranges ≤ 1024
+  pub place_count : places p ≤ 24576
+  pub slot_count : (1 ≤ length p.slots) × (length p.slots ≤ 64)
+  pub slots : All (λ d. d < length p.domains) p.slots
+  -- each domain owns a slot
+  pub each_has_slot : (d : ℕ) → d < length p.domains → Contains p.slots d

@@ -1,0 +1,33 @@
+//! What holds of every plan and every run, over the definitions alone. Each law is the contract of a function that does nothing.
+
+ghost use Rattle.std.specs.Prelude.{◌≡◌, ◌<◌, ◌+ℤ◌, ℕ, ℤ, pos, List, length, Some, false};
+ghost use Rattle.noc_model.specs.Plan.{Plan, tiles, hop};
+ghost use Rattle.noc_model.specs.Sound.{IsSound};
+ghost use Rattle.noc_model.specs.Place.{neighbour, is_wrap, owner};
+ghost use Rattle.noc_model.specs.Run.{Input, run};
+ghost use Rattle.noc_model.specs.Walk.{Stop, stop_at, next_stop, out_of, out_rank};
+ghost use Rattle.noc_model.specs.Laws.{channel_sum};
+ghost use Rattle.noc_model.specs.SoundState.{IsSoundState};
+
+/// Credit conservation. On each channel of each link the credits, the flits on the link, those in the list at its end, and 1
+/// for a credit that is on its way back add up to the buffer, in every state of every run. No list is longer than the
+/// buffer, each flit goes to a tile that hosts the domain, and a flit on a link came there in a cycle that the domain owned.
+pub fn channel_sum()
+    ensures sum { (p : Plan) (d n port m w : ℕ) (inputs : List Input) → IsSound p → n < tiles p → neighbour p n port ≡ Some m
+        → channel_sum p (run p d inputs) n port m w ≡ p.buffer }
+    ensures states { (p : Plan) (d : ℕ) (inputs : List Input) → IsSound p → d < length p.domains
+        → IsSoundState p d (pos (length inputs)) (run p d inputs) }
+{}
+
+/// The wave. Where a link is no wrap link, the domain that owns it owns the next link by the same port a hop later.
+pub fn wave()
+    ensures { (p : Plan) (n port m : ℕ) (t : ℤ) → IsSound p → neighbour p n port ≡ Some m → is_wrap p n port ≡ false
+        → owner p m port (t +ℤ pos (hop p)) ≡ owner p n port t }
+{}
+
+/// Along every route from a local port the channel rank rises from each link to the next, so no channels wait for each other
+/// in a circle.
+pub fn rank_rises()
+    ensures { (p : Plan) (dest n k m : ℕ) (a b : Stop) → IsSound p → stop_at p dest n k ≡ Some a → next_stop p dest a ≡ Some b
+        → neighbour p b.tile (out_of p dest b) ≡ Some m → out_rank p dest a < out_rank p dest b }
+{}

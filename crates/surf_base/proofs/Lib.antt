@@ -1,0 +1,7 @@
+pub mod OutsideLemmas
+pub mod TakenLemmas
+pub mod MemFilesLemmas
+pub mod NumbersLemmas
+mod Rows
+pub mod Blocks
+pub mod Decimals

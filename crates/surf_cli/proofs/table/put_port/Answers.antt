@@ -1,0 +1,18 @@
+use Rattle.std.proofs.Common.{◌≡◌, Some, None, sym, ap, ◌∙◌, subst, is_some, true, false, List, ℕ, [], ◌++◌}
+use Rattle.noc_model.specs.Place.{neighbour, owner}
+use Rattle.noc_model.specs.Plan.{name_of}
+use Rattle.surf_base.specs.Block.{Writes, Puts, stream}
+use Rattle.surf_base.proofs.Blocks.{Puts-nothing}
+use Rattle.std.specs.Prelude.{pos}
+use Rattle.surf_cli.specs.Schedule.{port_text, owner_line, field, link_text}
+use Rattle.surf_cli.proofs.Texts.{Writes-port, port_text-none}
+use Rattle.surf_cli.proofs.table.put_port.Goals as goal
+
+pub returns-in-Some : goal.returns-in-Some
+returns-in-Some g c =
+    let p = c.args.plan.now in
+    Writes-port c.put_line.result _ _ p c.args.cycle c.args.tile c.args.port c.in-Some.field-0 c.name.result.now (sym c.in-Some.ensures.value)
+    (c.name.ensures ∙ ap (name_of p) c.owner-domain.ensures.value) c.put_line.ensures
+
+pub returns-in-None : goal.returns-in-None
+returns-in-None g c = subst (Puts _ _) (sym (port_text-none c.args.plan.now c.args.cycle c.args.tile c.args.port (sym c.in-None.ensures.value))) (Puts-nothing _)

@@ -1,0 +1,31 @@
+-- The commands, by their words.
+use Rattle.std.specs.Prelude.{ℕ, List, [], ◌∷◌, codes, if◌then◌else◌, Option, Some, None, option_map}
+use Rattle.std.specs.Str.{bytes_eq}
+use Rattle.surf_base.specs.Numbers.{decimal_in}
+
+-- what a command asks for, with the names of its files
+pub data Command : Type 0 where
+  Schedule : (description : List ℕ) → (cycles : ℕ) → Command
+
+-- a name and a count
+abbrev pub schedule_of : List ℕ → List ℕ → Option Command
+schedule_of description cycles = option_map (Schedule description) (decimal_in 4096 cycles)
+
+-- the command that the words are; nothing where they are no row of the table of commands
+abbrev pub command_of : List (List ℕ) → Option Command
+command_of (verb ∷ description ∷ cycles ∷ []) = if bytes_eq verb (codes "schedule") then schedule_of description cycles else None
+command_of _ = None
+
+-- a file that a command names, and the most bytes that it may have
+pub record NamedFile : Type 0 where
+  pub name : List ℕ
+  pub limit : ℕ
+
+-- the files of a command, in the order of its words
+abbrev pub files_of : Command → List NamedFile
+files_of (Schedule description cycles) = record { name = description; limit = 1048576 } ∷ []
+
+-- the files that the words name
+abbrev pub files_named : Option Command → List NamedFile
+files_named None = []
+files_named (Some command) = files_of command

@@ -1,0 +1,6 @@
+pub mod Commands
+pub mod Spoken
+pub mod Lines
+pub mod Schedule
+pub mod Meaning
+pub mod Runs

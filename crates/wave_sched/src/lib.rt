@@ -1,0 +1,64 @@
+//! The wave schedule: links are shared by time, and the slots of the domains move with the packets like a wave.
+//!
+//! `owner` is the slot owner of a link in a cycle, as `noc_model` defines it, computed with a few divisions.
+//! Which domain then sends is left to the switch above.
+#![tactic(auto)]
+
+ghost use Rattle.std.specs.Prelude.{◌≡◌, ◌<◌, ◌≤◌, ◌+◌, ◌-◌, ◌*◌, ◌%◌, ◌^◌, length, pos, IsSome};
+ghost use Rattle.noc_model.specs.Plan.{tiles, hop};
+ghost use Rattle.noc_model.specs.Place.{owner, neighbour, wave};
+
+use noc_model::Plan;
+
+/// The domain that owns the link that leaves `tile` by `port` in a cycle (Wassel et al., SurfNoC, ISCA 2013).
+/// The port has a link.
+pub fn owner(plan: &Plan, tile: u32, port: u32, cycle: u32) -> u32
+    requires tile { tile < tiles plan.now }
+    requires link { IsSome (neighbour plan.now tile port) }
+    ensures value { result ≡ owner plan.now tile port (pos cycle) }
+    ensures domain { result < length plan.now.domains }
+{
+    plan.known();
+    let turn = plan.slots();
+    let shift = plan.hop() * wave(plan, tile) % turn;
+    let slot = if port % 2 == 1 {
+        earlier_slot(cycle, shift, turn)
+    } else {
+        later_slot(cycle, shift, turn)
+    };
+    plan.slot(slot)
+}
+
+/// The slot `shift` cycles before a cycle.
+fn earlier_slot(cycle: u32, shift: u32, turn: u32) -> u32
+    requires small { turn ≤ 64 }
+    requires within { shift < turn }
+    ensures { result ≡ (cycle % turn + (turn - shift)) % turn }
+{
+    let before = cycle % turn + (turn - shift);
+    before % turn
+}
+
+/// The slot `shift` cycles after a cycle.
+fn later_slot(cycle: u32, shift: u32, turn: u32) -> u32
+    requires small { turn ≤ 64 }
+    requires within { shift < turn }
+    ensures { result ≡ (cycle % turn + shift) % turn }
+{
+    let after = cycle % turn + shift;
+    after % turn
+}
+
+/// The sum of a tile's coordinates.
+fn wave(plan: &Plan, tile: u32) -> u32
+    requires { tile < tiles plan.now }
+    ensures wave { result ≡ wave plan.now tile }
+    ensures small { result ≤ 45 }
+{
+    plan.known();
+    let mut sum = 0;
+    for i in 0..plan.dims() {
+        sum += plan.coord(tile, i);
+    }
+    sum
+}
