@@ -12,6 +12,7 @@ ghost use Rattle.surf_cli.specs.Lines.{line_of, Says};
 ghost use Rattle.surf_cli.specs.Meaning.{meaning};
 ghost use Rattle.surf_cli.specs.Runs.{Runs, outside, TellsAll};
 
+mod routes;
 mod run;
 mod statuses;
 mod table;
