@@ -1,5 +1,5 @@
 -- What a wheel that stands for a cycle answers.
-use Rattle.std.proofs.Common.{◌≡◌, ℕ, ◌+◌, ◌%◌, ◌<◌, List, length, map, refl, sym, ◌∙◌, ap, arith, subst}
+use Rattle.std.proofs.Common.{◌≡◌, ℕ, ◌+◌, ◌%◌, ◌<◌, List, length, map, sym, ◌∙◌, ap, arith, subst}
 use Rattle.std.specs.Prelude.{Some, pos, ◌+ℤ◌, ◌-ℤ◌, slice_index, slice_index_or, Option, None, All}
 use Rattle.std.specs.List.{range_with_len}
 use Rattle.std.proofs.lemmas.Int.{ints}
@@ -14,10 +14,14 @@ use Rattle.wave_sched.specs.Starts.{port_slots, arriving_from, AreBelow}
 use Rattle.wave_sched.specs.Wheels.{Stands, wheel_ports}
 use Rattle.wave_sched.proofs.Turns.{slot-below, linked-port, owner-leaving, owner-arriving}
 
+-- a wheel has the ports of its plan
+pub wheel_ports-is : (w : Wheel) (p : Plan) (n t : ℕ) → Stands w p n t → wheel_ports w ≡ ports p
+wheel_ports-is w p n t stands = ap length stands.links ∙ length-map-range_with_len (port_slots p n) 0 (ports p)
+
 -- a port's slots are those of the plan
 start-is : (w : Wheel) (p : Plan) (n t port : ℕ) (s : PortSlots) → Stands w p n t → port < wheel_ports w → s ≡ slice_index_or w.starts.items port s → s ≡ port_slots p n port
 start-is w p n t port s stands there is =
-    let count : wheel_ports w ≡ ports p = ap length stands.links ∙ length-map-range_with_len (port_slots p n) 0 (ports p) in
+    let count = wheel_ports-is w p n t stands in
     is ∙ ap (λ l. slice_index_or l port s) stands.links ∙ get_or-map-range_with_len (port_slots p n) 0 (ports p) port port s (omega (arith, count, there)) (omega arith)
 
 -- the owner of a port's slot, by the plan's list
@@ -59,8 +63,10 @@ arriving-below p port (Some m) some = slot-below p m (pos 0 -ℤ pos p.stages) (
 pub starts-below : (p : Plan) (n count : ℕ) → 0 < length p.slots → All (AreBelow (length p.slots)) (map (port_slots p n) (range_with_len 0 count))
 starts-below p n count some =
     All-map (AreBelow (length p.slots)) (port_slots p n) (range_with_len 0 count)
-    (λ k d there. (slot-below p n (pos 0) (way_of (slice_index_or (range_with_len 0 count) k d)) some,
-    arriving-below p (slice_index_or (range_with_len 0 count) k d) (neighbour p n (slice_index_or (range_with_len 0 count) k d)) some))
+    (λ k d there. (
+      slot-below p n (pos 0) (way_of (slice_index_or (range_with_len 0 count) k d)) some,
+      arriving-below p (slice_index_or (range_with_len 0 count) k d) (neighbour p n (slice_index_or (range_with_len 0 count) k d)) some,
+    ))
 
 pub made-below : (p : Plan) (n count : ℕ) (owners : List ℕ) (starts : List PortSlots) → 0 < length p.slots → owners ≡ p.slots → starts ≡ map (port_slots p n) (range_with_len 0 count)
     → All (AreBelow (length owners)) starts

@@ -1,5 +1,5 @@
 -- Where a tile's slots stand in cycle 0.
-use Rattle.std.specs.Prelude.{ℕ, ◌<◌, Option, Some, None, ℤ, pos, ◌-ℤ◌}
+use Rattle.std.specs.Prelude.{ℕ, ◌<◌, Option, Some, None, pos, ◌-ℤ◌}
 use Rattle.wave_sched.specs.declared.starts.PortSlots.{PortSlots}
 use Rattle.noc_model.specs.Plan.{Plan}
 use Rattle.noc_model.specs.Place.{neighbour, opposite, way_of, slot_of}

@@ -94,10 +94,6 @@ impl Wheel {
             → result ≡ owner p m (opposite port) (pos t -ℤ pos p.stages) }
         ensures domain { (p : PlanValue) (n t : ℕ) → Stands self.now p n t → result < length p.domains }
     {
-        owner_at(
-            &self.slots,
-            self.starts[port as usize].arriving,
-            self.turn,
-        )
+        owner_at(&self.slots, self.starts[port as usize].arriving, self.turn)
     }
 }
