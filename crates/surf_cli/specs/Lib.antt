@@ -3,5 +3,6 @@ pub mod Spoken
 pub mod Lines
 pub mod Schedule
 pub mod Accepted
+pub mod Routes
 pub mod Meaning
 pub mod Runs

@@ -11,9 +11,10 @@ use Rattle.desc_check.specs.Network.{plan_of_draft}
 use Rattle.desc_check.specs.Accepted.{first_fault}
 use Rattle.surf_cli.specs.declared.statuses.End.{End}
 use Rattle.surf_cli.specs.declared.statuses.End.TheVariants.{Good, Usage, Description, Read, TooLong}
-use Rattle.surf_cli.specs.Commands.{Command, Schedule, Check, description_of}
+use Rattle.surf_cli.specs.Commands.{Command, Schedule, Check, Routes, description_of}
 use Rattle.surf_cli.specs.Schedule.{schedule_text}
 use Rattle.surf_cli.specs.Accepted.{accepted_text}
+use Rattle.surf_cli.specs.Routes.{routes_text}
 
 -- what a description says: its first fault, or else its plan
 pub data Judged : Type 0 where
@@ -64,6 +65,7 @@ with_description held next = with_file 1048576 held (λ bytes. with_plan (judged
 abbrev pub answer_text : Command → Plan → List ℕ
 answer_text (Schedule description cycles) p = schedule_text p cycles
 answer_text (Check description) p = accepted_text p
+answer_text (Routes description) p = routes_text p
 
 abbrev pub meaning_of : (List ℕ → Held) → Command → Outcome
 meaning_of held command = with_description (held (description_of command)) (λ plan. done (answer_text command plan))

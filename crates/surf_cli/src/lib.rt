@@ -13,6 +13,7 @@ ghost use Rattle.surf_cli.specs.Meaning.{meaning};
 ghost use Rattle.surf_cli.specs.Runs.{Ends, outside, TellsAll};
 
 mod accepted;
+mod routes;
 mod run;
 mod statuses;
 mod table;

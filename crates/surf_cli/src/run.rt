@@ -10,6 +10,7 @@ ghost use Rattle.surf_cli.specs.Meaning.{judged, Described, answer_text};
 ghost use Rattle.surf_cli.specs.Runs.{Runs, outside, WritesOut, GotPlan, GotNone, IsFaulty};
 
 use crate::accepted::put_accepted;
+use crate::routes::put_routes;
 use crate::statuses::End;
 use crate::table::put_schedule;
 use crate::words::{Request, request_of};
@@ -73,6 +74,7 @@ fn put_answer<O: Sink>(
     match request {
         Request::Schedule { cycles, .. } => put_schedule(block, out, plan, cycles),
         Request::Check { .. } => put_accepted(block, out, plan),
+        Request::Routes { .. } => put_routes(block, out, plan),
     }
 }
 

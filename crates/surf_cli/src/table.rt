@@ -11,7 +11,7 @@ use surf_base::{Block, Failed, Sink, decimal};
 use wave_sched::owner;
 
 /// Puts a number in decimal, and a blank.
-fn put_field<O: Sink>(block: &mut Block, out: &mut O, value: u32) -> Result<(), Failed>
+pub(crate) fn put_field<O: Sink>(block: &mut Block, out: &mut O, value: u32) -> Result<(), Failed>
     ensures { Writes result (stream (O.written out.old) block.old (O.faults out.old))
         (stream (O.written out.new) block.new (O.faults out.new)) (field value) }
 {
@@ -24,7 +24,7 @@ fn put_field<O: Sink>(block: &mut Block, out: &mut O, value: u32) -> Result<(), 
 }
 
 /// Puts the owner's name, and ends the line.
-fn put_name<O: Sink>(block: &mut Block, out: &mut O, name: &[u8]) -> Result<(), Failed>
+pub(crate) fn put_name<O: Sink>(block: &mut Block, out: &mut O, name: &[u8]) -> Result<(), Failed>
     ensures { Writes result (stream (O.written out.old) block.old (O.faults out.old))
         (stream (O.written out.new) block.new (O.faults out.new)) (name.now ++ 10 ∷ []) }
 {

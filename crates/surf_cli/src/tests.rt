@@ -24,6 +24,9 @@ range = [{tile = 0, first = 0x10, last = 0x1f}]\n";
 const CUBE: &str = "version = 2\nshape = \"mesh\"\ndims = [2, 2, 2]\nstages = 1\nbuffer = 2\n\
 domain = [{name = \"a\", channels = 1}]\nslots = [\"a\"]\n";
 
+const RING_OF_FOUR: &str = "version = 1\nshape = \"torus\"\ndims = [4]\nstages = 1\nbuffer = 2\n\
+domain = [{name = \"a\", channels = 1}]\n";
+
 /// Runs the words over one file `d`, and answers the status and what is on the output and the error stream.
 fn run(
     rt: &HostRuntime,
@@ -134,6 +137,22 @@ fn each_command_gives_its_status_and_bytes(rt: HostRuntime) -> Result<(), Fail> 
         assert!(rt; got.0 == status, "{words}: {:?}", got.0);
         assert_eq!(rt; got.1.as_str(), out, "{words}");
         assert_eq!(rt; got.2.as_str(), err, "{words}");
+    }
+    Ok(())
+}
+
+#[test]
+fn routes_take_the_shorter_way_round(rt: HostRuntime) -> Result<(), Fail> {
+    let rows = [
+        (RING_OF_FOUR, "0 0 0 0\n0 1 1 0\n0 2 1 0\n0 3 2 1\n"),
+        (CUBE, "\n0 7 1 0\n"),
+        (CUBE, "\n3 7 5 0\n"),
+    ];
+    for (content, lines) in rows {
+        let (status, out, err) = run(&rt, "routes d", Some(content.as_bytes()), &[], &[])?;
+        assert!(rt; status == Status::Good);
+        assert!(rt; out.as_str().contains(lines), "{lines}");
+        assert_eq!(rt; err.as_str(), "");
     }
     Ok(())
 }

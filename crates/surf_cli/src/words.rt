@@ -21,6 +21,11 @@ pub(crate) enum Request<'a> {
         /// The name of the description's file.
         description: &'a str,
     },
+    /// The routes from each tile to each tile.
+    Routes {
+        /// The name of the description's file.
+        description: &'a str,
+    },
 }
 
 impl<'a> Request<'a> {
@@ -31,6 +36,7 @@ impl<'a> Request<'a> {
         match *self {
             Request::Schedule { description, .. } => description,
             Request::Check { description } => description,
+            Request::Routes { description } => description,
         }
     }
 }
@@ -48,6 +54,9 @@ pub(crate) fn request_of(words: &[String]) -> Option<Request<'_>>
             })
         }
         [verb, description] if verb.as_str() == "check" => Some(Request::Check {
+            description: description.as_str(),
+        }),
+        [verb, description] if verb.as_str() == "routes" => Some(Request::Routes {
             description: description.as_str(),
         }),
         _ => None,

@@ -1,0 +1,137 @@
+//! Dimension-order routing with datelines: the port that a flit takes, and the channel class that it goes on in.
+//!
+//! `route`, `class_after` and `rank` answer what `noc_model` defines for a plan, for each tile and port, with a few
+//! divisions and without memory. That the rank rises along every route is a law of `noc_model`. Which of a class's
+//! channels a packet gets, and when a flit moves, is left to the router above.
+#![tactic(auto)]
+
+ghost use Rattle.std.specs.Prelude.{◌≡◌, ◌≢◌, ◌<◌, ◌≤◌, ◌+◌, ◌-◌, ◌*◌, ◌%◌, length, IsSome, IsTrue, if◌then◌else◌, nat_lt, ◌&&◌};
+ghost use Rattle.noc_model.specs.Plan.{tiles, ports, classes};
+ghost use Rattle.noc_model.specs.Place.{neighbour, route, class_after, rank, goes_plus, Plus, Minus, way_of, port_of, is_wrap, is_same_dim, are_edges, next_in, last_in, position};
+
+use noc_model::Plan;
+
+/// The port by which a flit for tile `dest` leaves tile `at`, the local port, 0, where it is there (dimension-order routing:
+/// Dally and Towles, section 8.4). On a torus it goes round a ring the shorter way, and by plus at a tie.
+pub fn route(plan: &Plan, at: u32, dest: u32) -> u32
+    requires at { at < tiles plan.now }
+    requires dest { dest < tiles plan.now }
+    ensures value { result ≡ route plan.now at dest }
+    ensures port { result < ports plan.now }
+{
+    plan.known();
+    for i in 0..plan.dims() {
+        let x = plan.coord(at, i);
+        let y = plan.coord(dest, i);
+        if x != y {
+            return port_in(i, goes_plus(plan.torus(), plan.side(i), x, y));
+        }
+    }
+    0
+}
+
+/// Whether the way from the coordinate `x` to another, `y`, is by plus.
+fn goes_plus(torus: bool, k: u32, x: u32, y: u32) -> bool
+    requires side { k ≤ 16 }
+    requires here { x < k }
+    requires there { y < k }
+    ensures { result ≡ goes_plus torus k x y }
+{
+    if torus {
+        2 * ((y + k - x) % k) <= k
+    } else {
+        x < y
+    }
+}
+
+/// The port in dimension `i` by plus or by minus.
+fn port_in(i: u32, plus: bool) -> u32
+    requires { i < 3 }
+    ensures { result ≡ port_of (if plus then Plus i else Minus i) }
+{
+    if plus { 1 + 2 * i } else { 2 + 2 * i }
+}
+
+/// The class of the channels in which a packet goes on by `out_port` that came in by `in_port` in class `in_class`
+/// (datelines: Dally and Towles, section 14.2.3): 1 on a wrap link, else the same within a dimension, else 0.
+pub fn class_after(plan: &Plan, at: u32, in_port: u32, in_class: u32, out_port: u32) -> u32
+    requires tile { at < tiles plan.now }
+    requires in_port { in_port < ports plan.now }
+    requires in_class { in_class < classes plan.now }
+    requires out_port { out_port < ports plan.now }
+    ensures value { result ≡ class_after plan.now at in_port in_class out_port }
+    ensures class { result < classes plan.now }
+{
+    if is_wrap(plan, at, out_port) {
+        1
+    } else if is_same_dim(in_port, out_port) {
+        in_class
+    } else {
+        0
+    }
+}
+
+/// Whether the link that leaves a tile by the port is a wrap link.
+fn is_wrap(plan: &Plan, at: u32, port: u32) -> bool
+    requires tile { at < tiles plan.now }
+    requires port { port < ports plan.now }
+    ensures value { result ≡ is_wrap plan.now at port }
+    ensures torus { IsTrue result → IsTrue plan.now.torus }
+{
+    if port == 0 || !plan.torus() {
+        return false;
+    }
+    let i = (port - 1) / 2;
+    is_over_edge(port % 2 == 1, plan.side(i), plan.coord(at, i))
+}
+
+/// Whether a step from the coordinate `x` round a ring of `k` goes from edge to edge: in a ring of 2 each does.
+fn is_over_edge(plus: bool, k: u32, x: u32) -> bool
+    requires { x < k }
+    ensures { result ≡ (nat_lt 1 k && are_edges k x (if plus then next_in k x else last_in k x)) }
+{
+    let edge = if plus { k - 1 } else { 0 };
+    k == 2 || k > 2 && x == edge
+}
+
+/// Whether both ports are of one dimension.
+fn is_same_dim(a: u32, b: u32) -> bool
+    ensures { result ≡ is_same_dim (way_of a) (way_of b) }
+{
+    a != 0 && b != 0 && (a - 1) / 2 == (b - 1) / 2
+}
+
+/// The rank of the channels of a class on the link that leaves tile `at` by the port, which has a link. It rises along every
+/// route.
+pub fn rank(plan: &Plan, at: u32, out_port: u32, class: u32) -> u32
+    requires tile { at < tiles plan.now }
+    requires link { IsSome (neighbour plan.now at out_port) }
+    requires class { class < classes plan.now }
+    ensures value { result ≡ rank plan.now at out_port class }
+    ensures few { result < 96 }
+{
+    plan.known();
+    let i = (out_port - 1) / 2;
+    let k = plan.side(i);
+    let x = tiles_behind(out_port % 2 == 1, k, plan.coord(at, i));
+    (2 * i + class) * 16 + position(k, x, class)
+}
+
+/// The tiles behind the one at the coordinate `x`, on a way by plus or by minus that begins at the edge.
+fn tiles_behind(plus: bool, k: u32, x: u32) -> u32
+    requires { x < k }
+    ensures value { result ≡ (if plus then x else k - 1 - x) }
+    ensures below { result < k }
+{
+    if plus { x } else { k - 1 - x }
+}
+
+/// How far along its ring of `k` a link stands that leaves the `x`-th tile, in channels of a class.
+fn position(k: u32, x: u32, class: u32) -> u32
+    requires within { x < k }
+    requires side { k ≤ 16 }
+    ensures value { result ≡ position k x class }
+    ensures below { result < k }
+{
+    if class == 0 { x } else { (x + 1) % k }
+}

@@ -1,0 +1,9 @@
+use Rattle.surf_base.specs.Block.{Puts, stream}
+use Rattle.surf_cli.specs.Schedule.{texts_below}
+use Rattle.surf_cli.specs.Routes.{routes_from}
+use Rattle.surf_cli.proofs.routes.put_routes.Given as goal
+
+abbrev pub invariant-loop-tile : goal.invariant-loop-tile
+invariant-loop-tile g l =
+    Puts (stream (g.O.Sink.written l.initial.out) l.initial.block (g.O.Sink.faults l.initial.out))
+    (stream (g.O.Sink.written l.out) l.block (g.O.Sink.faults l.out)) (texts_below l.tile (routes_from l.plan))

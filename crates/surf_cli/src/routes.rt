@@ -1,0 +1,106 @@
+//! The table of routes: a line for each way from a tile to a tile.
+
+ghost use Rattle.std.specs.Prelude.{◌≡◌, ◌<◌, ◌++◌, ◌∷◌, [], length, decimal};
+ghost use Rattle.surf_base.specs.Block.{Writes, stream};
+ghost use Rattle.noc_model.specs.Plan.{tiles};
+ghost use Rattle.surf_cli.specs.Schedule.{field};
+ghost use Rattle.surf_cli.specs.Routes.{way_text, route_line, route_text, routes_from, routes_text};
+
+use crate::table::{put_field, put_name};
+use dor_routes::{class_after, route};
+use noc_model::Plan;
+use surf_base::{Block, Failed, Sink, decimal};
+
+/// Puts a number in decimal, and ends the line.
+fn put_last<O: Sink>(block: &mut Block, out: &mut O, value: u32) -> Result<(), Failed>
+    ensures { Writes result (stream (O.written out.old) block.old (O.faults out.old))
+        (stream (O.written out.new) block.new (O.faults out.new)) (decimal value ++ 10 ∷ []) }
+{
+    let mut digits = [0; 20];
+    let len = decimal(u64::from(value), &mut digits);
+    put_name(block, out, &digits[..len])
+}
+
+/// Puts the rest of a line from the port on.
+fn put_way<O: Sink>(block: &mut Block, out: &mut O, port: u32, class: u32) -> Result<(), Failed>
+    ensures { Writes result (stream (O.written out.old) block.old (O.faults out.old))
+        (stream (O.written out.new) block.new (O.faults out.new)) (way_text port class) }
+{
+    match put_field(block, out, port) {
+        Ok(()) => put_last(block, out, class),
+        Err(fault) => Err(fault),
+    }
+}
+
+/// Puts the rest of a line from the second tile on.
+fn put_target<O: Sink>(
+    block: &mut Block,
+    out: &mut O,
+    dest: u32,
+    port: u32,
+    class: u32,
+) -> Result<(), Failed>
+    ensures { Writes result (stream (O.written out.old) block.old (O.faults out.old))
+        (stream (O.written out.new) block.new (O.faults out.new)) (field dest ++ way_text port class) }
+{
+    match put_field(block, out, dest) {
+        Ok(()) => put_way(block, out, port, class),
+        Err(fault) => Err(fault),
+    }
+}
+
+/// Puts the line of the way from a tile to a tile.
+fn put_route<O: Sink>(
+    block: &mut Block,
+    out: &mut O,
+    plan: &Plan,
+    tile: u32,
+    dest: u32,
+) -> Result<(), Failed>
+    requires tile { tile < tiles plan.now }
+    requires dest { dest < tiles plan.now }
+    ensures { Writes result (stream (O.written out.old) block.old (O.faults out.old))
+        (stream (O.written out.new) block.new (O.faults out.new)) (route_text plan.now tile dest) }
+{
+    plan.known();
+    let port = route(plan, tile, dest);
+    let class = class_after(plan, tile, 0, 0, port);
+    match put_field(block, out, tile) {
+        Ok(()) => put_target(block, out, dest, port, class),
+        Err(fault) => Err(fault),
+    }
+}
+
+/// Puts the lines of the ways from a tile.
+fn put_routes_from<O: Sink>(
+    block: &mut Block,
+    out: &mut O,
+    plan: &Plan,
+    tile: u32,
+) -> Result<(), Failed>
+    requires { tile < tiles plan.now }
+    ensures { Writes result (stream (O.written out.old) block.old (O.faults out.old))
+        (stream (O.written out.new) block.new (O.faults out.new)) (routes_from plan.now tile) }
+{
+    for dest in 0..plan.tiles() {
+        match put_route(block, out, plan, tile, dest) {
+            Ok(()) => {}
+            Err(fault) => return Err(fault),
+        }
+    }
+    Ok(())
+}
+
+/// Puts the table of routes.
+pub(crate) fn put_routes<O: Sink>(block: &mut Block, out: &mut O, plan: &Plan) -> Result<(), Failed>
+    ensures { Writes result (stream (O.written out.old) block.old (O.faults out.old))
+        (stream (O.written out.new) block.new (O.faults out.new)) (routes_text plan.now) }
+{
+    for tile in 0..plan.tiles() {
+        match put_routes_from(block, out, plan, tile) {
+            Ok(()) => {}
+            Err(fault) => return Err(fault),
+        }
+    }
+    Ok(())
+}
