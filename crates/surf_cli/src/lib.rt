@@ -55,4 +55,6 @@ pub fn surf<F: Files, O: Sink, E: Sink>(
 }
 
 #[cfg(test)]
+mod wheel_rows;
+#[cfg(test)]
 mod tests;

@@ -7,7 +7,7 @@ use Rattle.noc_model.specs.Plan.{Plan, hop}
 use Rattle.noc_model.specs.Place.{modulo, neighbour, slot_of, way_of, wave, coords_in}
 
 -- two numbers that differ by multiples of k have the same remainder
-same-mod : (k x y i j : ℕ) → x + k * i ≡ y + k * j → x % k ≡ y % k
+pub same-mod : (k x y i j : ℕ) → x + k * i ≡ y + k * j → x % k ≡ y % k
 same-mod k x y i j e = sym (add-mul-mod_self_left x k i) ∙ ap (λ z. z % k) e ∙ add-mul-mod_self_left y k j
 
 pub modulo-later : (k t w : ℕ) → 0 < k → modulo (pos t +ℤ pos w) k ≡ (t % k + w % k) % k

@@ -1,6 +1,7 @@
 //! The wave schedule: links are shared by time, and the slots of the domains move with the packets like a wave.
 //!
-//! `owner` is the slot owner of a link in a cycle, as `noc_model` defines it, computed with a few divisions.
+//! `owner` is the slot owner of a link in a cycle, as `noc_model` defines it, computed with a few divisions. A `Wheel` has
+//! the owners of all links of a tile, cycle after cycle and without a division, also of those on which flits arrive.
 //! Which domain then sends is left to the switch above.
 #![tactic(auto)]
 
@@ -8,7 +9,11 @@ ghost use Rattle.std.specs.Prelude.{◌≡◌, ◌<◌, ◌≤◌, ◌+◌, ◌-
 ghost use Rattle.noc_model.specs.Plan.{tiles, hop};
 ghost use Rattle.noc_model.specs.Place.{owner, neighbour, wave};
 
+mod starts;
+mod wheels;
+
 use noc_model::Plan;
+pub use wheels::Wheel;
 
 /// The domain that owns the link that leaves `tile` by `port` in a cycle (Wassel et al., SurfNoC, ISCA 2013).
 /// The port has a link.

@@ -1,5 +1,5 @@
-use Rattle.std.proofs.Common.{◌≡◌, ◌<◌, ◌≤◌, ◌+◌, ◌*◌, arith, sym, ◌∙◌, ap, ℕ, length}
-use Rattle.std.specs.Prelude.{slice_index, pos}
+use Rattle.std.proofs.Common.{◌<◌, arith, ◌∙◌, ap, length}
+use Rattle.std.specs.Prelude.{slice_index}
 use Rattle.noc_model.specs.Place.{owner}
 use Rattle.wave_sched.proofs.Slots.{owned-odd, owned-even, link-port}
 use Rattle.wave_sched.proofs.owner.Goals as goal

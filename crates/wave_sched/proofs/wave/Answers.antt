@@ -1,8 +1,8 @@
-use Rattle.std.proofs.Common.{◌≡◌, ◌<◌, ◌≤◌, ◌+◌, ◌*◌, take, drop, List, length, arith, ℕ, sym, ◌∙◌, ap}
-use Rattle.std.specs.Prelude.{sum_by, slice_index}
+use Rattle.std.proofs.Common.{◌≤◌, ◌+◌, take, List, length, arith, ℕ, sym, ◌∙◌, ap}
+use Rattle.std.specs.Prelude.{sum_by}
 use Rattle.std.proofs.lemmas.List.{take_all}
 use Rattle.std.proofs.lemmas.List.Sums.{sum_by_more}
-use Rattle.noc_model.specs.Place.{coord, side, coords_in, wave}
+use Rattle.noc_model.specs.Place.{coord, coords_in, wave}
 use Rattle.noc_model.proofs.Plans.{side-few}
 use Rattle.wave_sched.proofs.Slots.{length-coords}
 use Rattle.wave_sched.proofs.wave.Goals as goal
