@@ -58,3 +58,6 @@ pub fn surf<F: Files, O: Sink, E: Sink>(
 
 #[cfg(test)]
 mod tests;
+
+#[cfg(test)]
+mod texts;
