@@ -1,5 +1,5 @@
 -- The end of a text.
-use Rattle.std.proofs.Common.{◌≡◌, ℕ, Bool, true, false, List, Option, Some, None, Result, Ok, Err, refl}
+use Rattle.std.proofs.Common.{◌≡◌, true, false, Some, None, Ok, Err, refl}
 use Rattle.std.specs.Option.{is_some}
 use Rattle.vl_tree.specs.Values.{Design}
 use Rattle.vl_tree.specs.Reading.{left_of, ended_at}

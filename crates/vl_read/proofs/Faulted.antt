@@ -1,15 +1,14 @@
 -- The first fault of a text.
-use Rattle.std.proofs.Common.{◌≡◌, ℕ, zero, suc, ◌+◌, ◌-◌, ◌<◌, ◌≤◌, Bool, true, false, cond, List, [], ◌∷◌, ◌++◌, length, get_or, take, drop, map, Result, Ok, Err, refl, sym, ap, subst, ◌∙◌, append_assoc, arith, inl, inr}
+use Rattle.std.proofs.Common.{◌≡◌, ℕ, suc, ◌+◌, ◌-◌, ◌<◌, ◌≤◌, Bool, true, false, cond, List, [], ◌∷◌, ◌++◌, length, get_or, take, drop, Ok, Err, refl, sym, ap, subst, ◌∙◌, append_assoc, arith, inl, inr}
 use Rattle.std.specs.Prelude.{◌⊎◌, ◌&&◌}
 use Rattle.std.specs.List.{prefix_len, list_all}
 use Rattle.std.proofs.lemmas.List.{take-append-drop, drop_more, length-take-le, length-append, append-nil}
-use Rattle.std.proofs.lemmas.List.Sums.{prefix_len_stops, prefix_len-le-length}
+use Rattle.std.proofs.lemmas.List.Sums.{prefix_len_stops}
 use Rattle.vl_tree.specs.Values.{Design}
-use Rattle.vl_tree.specs.Tokens.{Token, Placed, tokens_of, unread}
-use Rattle.vl_tree.specs.Grammar.{design_tokens}
-use Rattle.vl_tree.specs.Spells.{text_of, is_text_byte, Spells, IsPlain, ByteFault, TokenFault, Begins, IsNoText, GrammarPlace, GrammarFault}
+use Rattle.vl_tree.specs.Tokens.{Placed, tokens_of, unread}
+use Rattle.vl_tree.specs.Spells.{text_of, is_text_byte, Spells, ByteFault, TokenFault, Begins, GrammarPlace, GrammarFault}
 use Rattle.vl_tree.specs.Reading.{design_at}
-use Rattle.vl_tree.proofs.Lexed.{and_true, tokens_right}
+use Rattle.vl_tree.proofs.Lexed.{and_true}
 use Rattle.vl_tree.proofs.Forms.{text_append}
 use Rattle.vl_tree.proofs.Designs.{design_found, design_again, fault_place, fault_within, plain_spelled}
 

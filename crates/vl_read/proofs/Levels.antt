@@ -1,10 +1,8 @@
 -- The levels of an expression.
-use Rattle.std.proofs.Common.{◌≡◌, ℕ, zero, suc, ◌+◌, ◌-◌, ◌<◌, ◌≤◌, List, [], ◌∷◌, ◌++◌, length, map, Result, Ok, Err, refl, sym, ap, subst, ◌∙◌, arith}
-use Rattle.std.specs.Prelude.{codes}
-use Rattle.vl_tree.specs.Values.{Expr, Exprs, no_parts, parts, cat}
+use Rattle.std.proofs.Common.{◌≡◌, ℕ, zero, suc, ◌-◌, ◌<◌, List, [], ◌∷◌, Result, Ok, Err, refl, ap, arith}
+use Rattle.vl_tree.specs.Values.{Expr, parts, cat}
 use Rattle.vl_tree.specs.Read.{parts_of}
 use Rattle.vl_tree.specs.Tokens.{Placed}
-use Rattle.vl_tree.specs.Grammar.{expr_tokens, Fits}
 use Rattle.vl_tree.specs.Reading.{Reader, left_of, made_of, paired, deeper, none, level_at, expr_at, parts_from}
 use Rattle.vl_read.specs.Lists.{more_of}
 

@@ -1,8 +1,8 @@
 -- Reading lists one by one, as a loop does.
-use Rattle.std.proofs.Common.{◌≡◌, ℕ, zero, suc, ◌+◌, ◌-◌, ◌<◌, ◌≤◌, Bool, true, false, List, [], ◌∷◌, ◌++◌, length, Result, Ok, Err, refl, sym, ap, subst, ◌∙◌, append_assoc, arith}
+use Rattle.std.proofs.Common.{◌≡◌, ℕ, zero, suc, ◌<◌, Bool, true, false, List, [], ◌∷◌, ◌++◌, length, Result, Ok, Err, refl, sym, ap, ◌∙◌, append_assoc, arith}
 use Rattle.std.proofs.lemmas.List.{append-nil}
 use Rattle.vl_tree.specs.Tokens.{Token, Placed}
-use Rattle.vl_tree.specs.Reading.{Reader, both, made, made_of, paired, continued, either, next_passes, none, until_within, until}
+use Rattle.vl_tree.specs.Reading.{Reader, both, made, made_of, paired, either, next_passes, until_within, until}
 use Rattle.vl_read.specs.declared.error.ReadError.{ReadError}
 use Rattle.vl_read.specs.declared.error.ReadError.TheVariants.{Memory, At}
 use Rattle.vl_read.specs.Gives.{Fails}

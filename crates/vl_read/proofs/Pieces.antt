@@ -1,5 +1,5 @@
 -- The piece at the front of a text, and how long it is.
-use Rattle.std.proofs.Common.{◌≡◌, ℕ, zero, suc, ◌+◌, ◌-◌, ◌<◌, ◌≤◌, Bool, true, false, cond, eqb, List, [], ◌∷◌, length, get_or, take, drop, Option, Some, None, refl, sym, ap, subst, ◌∙◌, arith}
+use Rattle.std.proofs.Common.{◌≡◌, ℕ, suc, ◌+◌, ◌<◌, ◌≤◌, Bool, true, false, cond, eqb, List, [], ◌∷◌, length, get_or, take, drop, Option, Some, None, refl, sym, ap, subst, arith}
 use Rattle.std.specs.Prelude.{not, ◌&&◌, ◌||◌, option_map, IfSome}
 use Rattle.std.specs.List.{prefix_len}
 use Rattle.std.proofs.lemmas.List.{length-drop}
@@ -122,8 +122,8 @@ longest_within [] = tt
 longest_within (b ∷ bs) =
     let n : ℕ = suc (length bs) in
     let runs : is_run b ≡ true → IsWithin n (run_at (run_of (b ∷ bs)) (after_run (b ∷ bs))) = λ e.
-        run_within n (run_of (b ∷ bs)) (after_run (b ∷ bs)) (omega (arith, run_some b bs e, length-prefix_len is_run (b ∷ bs)))
-        (omega (arith, length-drop (length (run_of (b ∷ bs))) (b ∷ bs), length-prefix_len is_run (b ∷ bs), prefix_len-le-length is_run (b ∷ bs))) in
+    run_within n (run_of (b ∷ bs)) (after_run (b ∷ bs)) (omega (arith, run_some b bs e, length-prefix_len is_run (b ∷ bs)))
+    (omega (arith, length-drop (length (run_of (b ∷ bs))) (b ∷ bs), length-prefix_len is_run (b ∷ bs), prefix_len-le-length is_run (b ∷ bs))) in
     one_within n (is_blank b) (Some (gap 1)) (cond (eqb b 47) (comment_at bs) (cond (is_run b) (run_at (run_of (b ∷ bs)) (after_run (b ∷ bs))) (symbol_at b bs))) (λ e. (omega arith, omega arith))
     (λ e. one_within n (eqb b 47) (comment_at bs) (cond (is_run b) (run_at (run_of (b ∷ bs)) (after_run (b ∷ bs))) (symbol_at b bs)) (λ f. comment_within bs)
     (λ f. one_within n (is_run b) (run_at (run_of (b ∷ bs)) (after_run (b ∷ bs))) (symbol_at b bs) runs (λ g. symbol_within b bs)))

@@ -1,12 +1,9 @@
 -- A text, piece by piece.
-use Rattle.std.proofs.Common.{◌≡◌, ℕ, zero, suc, ◌+◌, ◌-◌, ◌<◌, ◌≤◌, List, [], ◌∷◌, length, drop, Option, Some, None, refl, sym, ap, subst, ◌∙◌, arith}
-use Rattle.std.specs.Prelude.{option_map}
-use Rattle.vl_tree.specs.Tokens as tokens
-use Rattle.vl_tree.specs.Tokens.{Placed, piece_at, with_token, pieced, tokens_behind, tokens_of, unread_at, unread_behind, unread}
+use Rattle.std.proofs.Common.{◌≡◌, ℕ, zero, suc, ◌+◌, ◌-◌, ◌<◌, ◌≤◌, List, [], ◌∷◌, length, drop, Some, None, refl, sym, ap, ◌∙◌, arith}
+use Rattle.vl_tree.specs.Tokens.{piece_at, with_token, tokens_behind, tokens_of, unread_behind, unread}
 use Rattle.vl_tree.proofs.Says.{behind_drop, unread_drop}
 use Rattle.vl_read.specs.declared.piece.Piece.{Piece}
-use Rattle.vl_read.specs.declared.piece.Token.{Token}
-use Rattle.vl_read.specs.View.{piece_of, token_of, token_in}
+use Rattle.vl_read.specs.View.{piece_of, token_in}
 
 drop_back : (n b : ℕ) (bs : List ℕ) → 0 < n → drop (n - 1) bs ≡ drop n (b ∷ bs)
 drop_back zero b bs h = absurd (omega arith)

@@ -1,15 +1,15 @@
 -- Each element of a list takes a token at least.
-use Rattle.std.proofs.Common.{◌≡◌, ℕ, zero, suc, ◌+◌, ◌<◌, ◌≤◌, Bool, List, [], ◌∷◌, ◌++◌, length, map, Result, Ok, Err, refl, sym, ap, ◌∙◌, arith}
+use Rattle.std.proofs.Common.{◌≡◌, ℕ, zero, suc, ◌<◌, Bool, List, [], ◌∷◌, length, Result, Ok, Err, refl, sym, ap, ◌∙◌, arith}
 use Rattle.std.specs.Prelude.{codes}
 use Rattle.std.proofs.lemmas.List.{length-append}
 use Rattle.vl_tree.specs.declared.tree.TopItem.{TopItem}
 use Rattle.vl_tree.specs.declared.tree.TopItem.TheVariants.{Wire, Instance}
 use Rattle.vl_tree.specs.Values.{Expr, Item, wire, reg, mem, assign, clocked, store}
 use Rattle.vl_tree.specs.Tokens.{Token, Placed}
-use Rattle.vl_tree.specs.Grammar.{marks, item_tokens, top_item_tokens, expr_tokens, Fits}
+use Rattle.vl_tree.specs.Grammar.{item_tokens, top_item_tokens}
 use Rattle.vl_tree.specs.Spells.{text_of}
-use Rattle.vl_tree.specs.Reading.{Reader, both, made, phrase, opened, expr_at, none, left_of, port_at, item_at, leaf_at, join_at, top_item_at}
-use Rattle.vl_tree.proofs.Forms.{IsForm, Found}
+use Rattle.vl_tree.specs.Reading.{Reader, both, made, phrase, expr_at, none, left_of, port_at, item_at, leaf_at, join_at, top_item_at}
+use Rattle.vl_tree.proofs.Forms.{IsForm}
 use Rattle.vl_tree.proofs.Single.{opened_form}
 use Rattle.vl_tree.proofs.Exprs.{an_expr, expr_form}
 use Rattle.vl_tree.proofs.Modules.{port_form, item_form, leaf_form, join_form, top_item_form}

@@ -1,5 +1,5 @@
 -- What the reader's own values stand for.
-use Rattle.std.specs.Prelude.{◌≡◌, ℕ, List, [], ◌∷◌, Option, None, Some, Result, Ok, Err, length}
+use Rattle.std.specs.Prelude.{ℕ, List, [], ◌∷◌, Option, None, Some}
 use Rattle.vl_tree.specs.Tokens as tokens
 use Rattle.vl_tree.specs.Tokens.{mark, name, plain, sized, Placed, tokens_of}
 use Rattle.vl_read.specs.declared.piece.Token.{Token}

@@ -192,7 +192,11 @@ fn inside<'a>(alloc: Global, ts: Ahead<'a>, depth: u32) -> Result<(Expr, Ahead<'
 
 #[cycle(expr)]
 #[tactic(auto, unfolding(vl_tree::specs::Reading::rest_at, vl_tree::specs::Reading::either, vl_tree::specs::Reading::both, vl_tree::specs::Reading::made))]
-fn behind_first<'a>(alloc: Global, ts: Ahead<'a>, depth: u32) -> Result<(Rest, Ahead<'a>), ReadError>
+fn behind_first<'a>(
+    alloc: Global,
+    ts: Ahead<'a>,
+    depth: u32,
+) -> Result<(Rest, Ahead<'a>), ReadError>
     ensures { Gives (λ x. (rest_of x.0, placed x.1)) result (reading.rest_at (reading.expr_at depth) (placed ts.entry)) }
 {
     if !at_mark(ts, b"?") {

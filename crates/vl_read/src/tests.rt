@@ -1,16 +1,22 @@
 use super::*;
 use std::alloc::{AllocError, Global};
 use std::test::*;
-use vl_tree::{Design, LeafItem, TextFault};
+use vl_tree::{Design, LeafItem, Ports, TextFault};
 
 const TOP: &[u8] = b"module noc (input wire clk, input wire rst); ";
-const LEAF: &[u8] = b"module r_0 (input wire clk, input wire rst, output wire [0:0] q_0); assign q_0 = ";
+
+const LEAF: &[u8] =
+    b"module r_0 (input wire clk, input wire rst, output wire [0:0] q_0); assign q_0 = ";
 
 fn joined(alloc: Global, front: &[u8], back: &[u8]) -> Result<Vec<u8>, AllocError> {
     let mut text = Vec::from_slice(alloc, front)?;
     text.extend_from_slice(back)?;
     Ok(text)
 }
+
+// A text whose one tile drops every word.
+const DROPS_EVERY_WORD: &[u8] =
+    b"module router_0 (input wire clk, input wire rst,\n  input wire [0:0] ov_0_0, input wire [31:0] oa_0_0,\n  input wire [31:0] op_0_0, input wire [0:0] ol_0_0,\n  input wire [0:0] hr_0_0, output wire [0:0] rd_0_0,\n  output wire [0:0] dr_0_0, output wire [0:0] ev_0_0,\n  output wire [0:0] eh_0_0, output wire [0:0] et_0_0,\n  output wire [31:0] ep_0_0);\n  reg [0:0] s_0;\n  assign rd_0_0 = 1'd1;\n  assign dr_0_0 = s_0;\n  assign ev_0_0 = 1'd0;\n  assign eh_0_0 = 1'd0;\n  assign et_0_0 = 1'd0;\n  assign ep_0_0 = 32'd0;\n  always @(posedge clk) if (rst) s_0 <= 1'd0; else s_0 <= ov_0_0;\nendmodule\nmodule noc (input wire clk, input wire rst,\n  input wire [0:0] ov_0_0, input wire [31:0] oa_0_0,\n  input wire [31:0] op_0_0, input wire [0:0] ol_0_0,\n  input wire [0:0] hr_0_0, output wire [0:0] rd_0_0,\n  output wire [0:0] dr_0_0, output wire [0:0] ev_0_0,\n  output wire [0:0] eh_0_0, output wire [0:0] et_0_0,\n  output wire [31:0] ep_0_0);\n  router_0 tile_0 (.clk(clk), .rst(rst), .ov_0_0(ov_0_0),\n    .oa_0_0(oa_0_0), .op_0_0(op_0_0), .ol_0_0(ol_0_0),\n    .hr_0_0(hr_0_0), .rd_0_0(rd_0_0), .dr_0_0(dr_0_0),\n    .ev_0_0(ev_0_0), .eh_0_0(eh_0_0), .et_0_0(et_0_0),\n    .ep_0_0(ep_0_0));\nendmodule\n";
 
 // The number of the fault, and its place.
 fn outcome(read: Result<Design, TextFault>) -> (u8, u64) {
@@ -92,7 +98,11 @@ fn at_most_199_constructs_stand_open(rt: HostRuntime) -> Result<(), Fail> {
 #[test]
 fn reads_a_design(rt: HostRuntime) -> Result<(), Fail> {
     let alloc = rt.alloc();
-    let text = joined(alloc, LEAF, b"3'd0; endmodule module noc (input wire clk, input wire rst); endmodule\n")?;
+    let text = joined(
+        alloc,
+        LEAF,
+        b"3'd0; endmodule module noc (input wire clk, input wire rst); endmodule\n",
+    )?;
     match read_design(alloc, &text) {
         Ok(design) => {
             assert_eq!(rt; design.leaves.len(), 1);
@@ -107,4 +117,55 @@ fn reads_a_design(rt: HostRuntime) -> Result<(), Fail> {
         Err(_) => assert!(rt; false),
     }
     Ok(())
+}
+
+// Each blank twice.
+fn doubled(alloc: Global, text: &[u8]) -> Result<Vec<u8>, AllocError> {
+    let mut wide = Vec::new(alloc);
+    for b in text {
+        wide.push(*b)?;
+        if *b == 32 || *b == 10 {
+            wide.push(*b)?;
+        }
+    }
+    Ok(wide)
+}
+
+fn same_ports(a: &Ports, b: &Ports) -> bool {
+    a.len() == b.len()
+        && a.as_slice().iter().zip(b.as_slice()).all(|(p, q)| {
+            p.output == q.output && p.high == q.high && p.name.as_slice() == q.name.as_slice()
+        })
+}
+
+#[test]
+fn blanks_change_nothing(rt: HostRuntime) -> Result<(), Fail> {
+    let alloc = rt.alloc();
+    let wide = doubled(alloc, DROPS_EVERY_WORD)?;
+    let narrow = read_design(alloc, DROPS_EVERY_WORD);
+    let wide = read_design(alloc, &wide);
+    match (narrow, wide) {
+        (Ok(a), Ok(b)) => {
+            assert_eq!(rt; a.leaves.len(), 1);
+            assert_eq!(rt; b.leaves.len(), 1);
+            assert_eq!(rt; a.leaves.at(0).ports.len(), 11);
+            assert!(rt; same_ports(&a.leaves.at(0).ports, &b.leaves.at(0).ports));
+            assert!(rt; same_ports(&a.top.ports, &b.top.ports));
+            assert_eq!(rt; a.leaves.at(0).items.len(), 8);
+            assert_eq!(rt; b.leaves.at(0).items.len(), 8);
+        }
+        _ => assert!(rt; false),
+    }
+    Ok(())
+}
+
+#[test]
+fn a_text_that_is_cut_off_is_refused(rt: HostRuntime) {
+    let len = DROPS_EVERY_WORD.len();
+    for n in 0..len - 1 {
+        let (fault, _) = outcome(read_design(rt.alloc(), &DROPS_EVERY_WORD[..n]));
+        assert!(rt; fault == 2 || fault == 3);
+    }
+    let (fault, _) = outcome(read_design(rt.alloc(), &DROPS_EVERY_WORD[..len - 1]));
+    assert_eq!(rt; fault, 0);
 }

@@ -1,5 +1,4 @@
-use Rattle.std.proofs.Common.{◌≡◌, ◌∷◌, length, drop, sym, ap, subst, ◌∙◌}
-use Rattle.std.specs.Prelude.{Some, None}
+use Rattle.std.proofs.Common.{◌∷◌, length, drop, sym, ap, ◌∙◌}
 use Rattle.vl_tree.specs.Tokens.{tokens_of, with_token}
 use Rattle.vl_read.specs.View.{token_in, token_of}
 use Rattle.vl_read.proofs.Steps.{tokens_none, tokens_some}

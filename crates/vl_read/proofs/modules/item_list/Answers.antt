@@ -1,9 +1,9 @@
-use Rattle.std.proofs.Common.{◌≡◌, ◌++◌, [], ◌∷◌, map, sym, ◌∙◌}
+use Rattle.std.proofs.Common.{◌≡◌, ◌++◌, [], ◌∷◌, sym, ◌∙◌}
 use Rattle.std.specs.Prelude.{codes}
 use Rattle.std.proofs.lemmas.Result.{err_from_is_err_and}
 use Rattle.std.proofs.lemmas.List.{map_push}
-use Rattle.vl_tree.specs.Read.{read_item, read_items, read_leaf, read_leaves}
-use Rattle.vl_tree.specs.Reading.{is_mark, is_name_token, goes_on, phrase, port_at, item_at, join_at, top_item_at, leaf_at, top_at}
+use Rattle.vl_tree.specs.Read.{read_item, read_items}
+use Rattle.vl_tree.specs.Reading.{goes_on, phrase, item_at}
 use Rattle.vl_read.specs.View.{placed}
 use Rattle.vl_read.specs.Parts as parts
 use Rattle.vl_read.proofs.Lists.{loop_on, loop_stops, loop_ends, loop_refused}

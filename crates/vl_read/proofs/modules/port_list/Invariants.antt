@@ -1,5 +1,4 @@
 use Rattle.std.proofs.Common.{◌≡◌, length}
-use Rattle.vl_tree.specs.Read.{read_item, read_items, read_leaf, read_leaves}
 use Rattle.vl_read.specs.View.{placed}
 use Rattle.vl_read.specs.Parts as parts
 use Rattle.vl_read.specs.Lists.{more_of}

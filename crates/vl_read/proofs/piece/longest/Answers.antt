@@ -1,7 +1,6 @@
-use Rattle.std.proofs.Common.{◌≡◌, ◌≢◌, eqb, false, sym, ap, ◌∙◌, get_or, drop, take, arith}
-use Rattle.std.specs.List.{prefix_len}
+use Rattle.std.proofs.Common.{◌≡◌, eqb, false, sym, ap, ◌∙◌, get_or, drop, take, arith}
 use Rattle.std.proofs.lemmas.Bool.Decides.{nat_tests}
-use Rattle.vl_tree.specs.Tokens.{comment_at, run_at, run_of, after_run, is_run}
+use Rattle.vl_tree.specs.Tokens.{comment_at, run_at, run_of, after_run}
 use Rattle.vl_read.proofs.Pieces.{blank_piece, comment_piece, run_piece, symbol_piece, after_is}
 use Rattle.vl_read.proofs.piece.longest.Goals as goal
 

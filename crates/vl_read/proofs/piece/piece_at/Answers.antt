@@ -1,4 +1,4 @@
-use Rattle.std.proofs.Common.{◌≡◌, length, arith}
+use Rattle.std.proofs.Common.{arith}
 use Rattle.std.proofs.lemmas.Bool.Decides.{nat_tests}
 use Rattle.vl_read.proofs.Pieces.{piece_none, piece_within}
 use Rattle.vl_read.proofs.piece.piece_at.Goals as goal

@@ -1,7 +1,6 @@
 use Rattle.std.proofs.Common.{◌≡◌, ◌+◌, drop, eqb}
 use Rattle.std.specs.Prelude.{not}
 use Rattle.std.specs.List.{prefix_len}
-use Rattle.vl_tree.specs.Tokens as tokens
 use Rattle.vl_read.proofs.scan.len_before.Given as goal
 
 abbrev pub invariant-loop-i : goal.invariant-loop-i

@@ -1,5 +1,4 @@
-use Rattle.std.proofs.Common.{◌≡◌, ◌+◌, drop, eqb}
-use Rattle.std.specs.Prelude.{not}
+use Rattle.std.proofs.Common.{◌≡◌, ◌+◌, drop}
 use Rattle.std.specs.List.{prefix_len}
 use Rattle.vl_tree.specs.Tokens as tokens
 use Rattle.vl_read.proofs.scan.run_len.Given as goal

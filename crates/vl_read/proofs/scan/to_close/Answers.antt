@@ -1,4 +1,4 @@
-use Rattle.std.proofs.Common.{◌≡◌, sym, ◌∙◌}
+use Rattle.std.proofs.Common.{sym, ◌∙◌}
 use Rattle.vl_tree.specs.Tokens.{to_close}
 use Rattle.vl_read.proofs.Scans.{close_here, close_on}
 use Rattle.vl_read.proofs.scan.to_close.Goals as goal
