@@ -1,2 +1,5 @@
-pub mod Ranges
+pub mod Lists
+pub mod Judged
 pub mod Sound
+mod Least
+mod Rows

@@ -1,73 +1,49 @@
--- What a draft must say to be a network, and the plan that it then says.
-use Rattle.std.specs.Prelude.{◌≡◌, ℕ, zero, suc, ◌+◌, ◌*◌, Bool, true, false, not, ◌&&◌, ◌||◌, ◌==◌, nat_le, List, [], ◌∷◌, ◌++◌, length, map, codes, ℤ, pos, negsuc, if◌then◌else◌, Option, Some, None}
-use Rattle.std.specs.List.{list_any, list_all, range_with_len}
-use Rattle.std.specs.Str.{bytes_eq}
-use Rattle.noc_model.specs.Plan.{Plan, places}
-use Rattle.noc_model.specs.declared.plan.DomainPart.{DomainPart}
+-- A draft's first fault: a condition is looked at only where no smaller number holds.
+use Rattle.std.specs.Prelude.{◌≤◌, [], ◌∷◌, length, Option}
+use Rattle.noc_model.specs.Plan.{Plan, tiles, places}
+use Rattle.noc_model.specs.Sound.{AreSides, HaveChannels}
 use Rattle.noc_desc.specs.declared.Draft.{Draft}
-use Rattle.noc_desc.specs.declared.DraftDomain.{DraftDomain}
+use Rattle.noc_desc.specs.declared.DescFault.{DescFault}
+use Rattle.desc_check.specs.Words.{first_of}
+use Rattle.desc_check.specs.Network.{tile_count, plan_of_draft}
+use Rattle.desc_check.specs.Faults.{version_fault, shape_fault, dims_fault, stages_fault, buffer_fault, domain_count_fault, domain_name_fault, domain_twice_fault, channels_fault, tile_range_fault, tile_twice_fault, host_unknown_fault, host_twice_fault, range_tile_fault, range_order_fault, range_overlap_fault, places_fault, attach_fault, slot_count_fault, slot_unknown_fault, slot_missing_fault}
 
--- ---- the plan
+-- the first fault of what has one number
+abbrev pub form_fault : Draft → Option DescFault
+form_fault d = first_of (version_fault d.version ∷ shape_fault d.shape ∷ dims_fault d.version d.dims ∷ stages_fault d.stages ∷ buffer_fault d.buffer ∷ [])
 
--- the number; what is below 0 is no number of a plan
-abbrev pub number_of : ℤ → ℕ
-number_of (pos n) = n
-number_of (negsuc n) = 0
+abbrev pub domains_fault : Draft → Option DescFault
+domains_fault d = first_of (domain_count_fault d.domains ∷ domain_name_fault d.domains ∷ domain_twice_fault d.domains ∷ channels_fault d.domains ∷ [])
 
-abbrev pub domain_of : DraftDomain → DomainPart
-domain_of x = record { name = x.name; channels = number_of x.channels }
+abbrev pub tiles_fault : Draft → Option DescFault
+tiles_fault d = first_of (tile_range_fault (tile_count d.dims) d.tiles ∷ tile_twice_fault d.tiles ∷ host_unknown_fault d.domains d.tiles ∷ host_twice_fault d.tiles ∷ [])
 
--- a mesh in which each domain has one slot, in order
-abbrev pub plan_of_draft : Draft → Plan
-plan_of_draft d = record {
-  torus = false;
-  dims = map number_of d.dims;
-  stages = number_of d.stages;
-  buffer = number_of d.buffer;
-  domains = map domain_of d.domains;
-  hosts = [];
-  ranges = [];
-  slots = range_with_len 0 (length d.domains);
-}
+abbrev pub ranges_fault : Draft → Option DescFault
+ranges_fault d = first_of (range_tile_fault (tile_count d.dims) d.ranges ∷ range_order_fault d.ranges ∷ range_overlap_fault d.ranges ∷ [])
 
--- ---- the judgement
+-- what the places of a plan are counted from is in range
+pub record IsSized (p : Plan) : Type 0 where
+  pub dims : length p.dims ≤ 3
+  pub sides : AreSides p.dims
+  pub tile_count : tiles p ≤ 256
+  pub buffer : p.buffer ≤ 16
+  pub domains : length p.domains ≤ 16
+  pub channels : HaveChannels p.domains
 
-abbrev pub is_between : ℕ → ℕ → ℕ → Bool
-is_between low high n = nat_le low n && nat_le n high
+-- the plan has too many places or attachments
+abbrev pub plan_fault : Plan → Option DescFault
+plan_fault p = first_of (places_fault (places p) ∷ attach_fault (length p.hosts) ∷ [])
 
--- a whole number from low to high
-abbrev pub is_within : ℕ → ℕ → ℤ → Bool
-is_within low high (pos n) = is_between low high n
-is_within low high (negsuc n) = false
+abbrev pub sizes_fault : Draft → Option DescFault
+sizes_fault d = plan_fault (plan_of_draft d)
 
--- a digit, a letter, `_` or `-`, in ASCII
-abbrev pub is_name_byte : ℕ → Bool
-is_name_byte b = is_between 48 57 b || (is_between 65 90 b || (is_between 97 122 b || ((b == 95) || (b == 45))))
+abbrev pub slots_fault : Draft → Option DescFault
+slots_fault d = first_of (slot_count_fault d.version d.slots ∷ slot_unknown_fault d.domains d.slots ∷ slot_missing_fault d.version d.domains d.slots ∷ [])
 
--- 1 to 16 bytes of a name
-abbrev pub is_name : List ℕ → Bool
-is_name bytes = is_between 1 16 (length bytes) && list_all is_name_byte bytes
+-- the first fault of a draft's values and lists
+abbrev pub lists_fault : Draft → Option DescFault
+lists_fault d = first_of (form_fault d ∷ domains_fault d ∷ tiles_fault d ∷ ranges_fault d ∷ [])
 
--- a domain has a name, and 1 to 4 channels
-abbrev pub is_domain : DraftDomain → Bool
-is_domain x = is_name x.name && is_within 1 4 x.channels
-
--- no two names are equal
-abbrev pub are_apart : List DraftDomain → Bool
-are_apart [] = true
-are_apart (x ∷ xs) = not (list_any (λ y. bytes_eq y.name x.name) xs) && are_apart xs
-
--- version 1, a mesh, and one side so far
-abbrev pub has_known_form : Draft → Bool
-has_known_form d = is_within 1 1 d.version && (bytes_eq d.shape (codes "mesh") && (is_between 1 1 (length d.dims) && list_all (is_within 1 16) d.dims))
-
-abbrev pub has_known_domains : List DraftDomain → Bool
-has_known_domains xs = is_between 1 16 (length xs) && (list_all is_domain xs && are_apart xs)
-
--- version, shape, sides, stages, buffer and domains are in order
-abbrev pub is_formed : Draft → Bool
-is_formed d = has_known_form d && (is_within 1 4 d.stages && (is_within 1 16 d.buffer && has_known_domains d.domains))
-
--- what is accepted: such a draft whose plan has at most 24,576 places
-abbrev pub is_accepted : Draft → Bool
-is_accepted d = is_formed d && nat_le (places (plan_of_draft d)) 24576
+-- the first fault of a draft
+abbrev pub first_fault : Draft → Option DescFault
+first_fault d = first_of (lists_fault d ∷ sizes_fault d ∷ slots_fault d ∷ [])

@@ -1,1 +1,5 @@
+pub mod Words
+pub mod Network
+pub mod Faults
 pub mod Accepted
+pub mod Line

@@ -1,39 +1,106 @@
-//! Judges the draft of a description, and makes the plan of one that is accepted.
+//! Judges the draft of a description, and makes the plan of one without a fault.
 //!
-//! `check` answers a plan exactly where the draft is accepted, and the plan is then the one that the draft says. So far a
-//! mesh with one side is accepted, of version 1. Which fault a refused draft has is not told yet, and reading the
-//! description is left to the crate below.
+//! `check` answers the plan that the draft says exactly where the draft has no fault, and else the first one: by its
+//! number, then by the least indices. What a fault is stands in `specs/`, one definition each, as a search along the
+//! draft's lists. Reading the description, and the faults of its keys and values, are left to the crate below.
 #![tactic(auto)]
 
-ghost use Rattle.std.specs.Prelude.{◌≡◌, IfOk, IfErr, true, false};
-ghost use Rattle.desc_check.specs.Accepted.{is_accepted, plan_of_draft};
+ghost use Rattle.std.specs.Prelude.{◌≡◌, ◌≤◌, length, take, IfOk, IfErr, Some, None};
+ghost use Rattle.noc_model.specs.PlanOf.{plan_of};
+ghost use Rattle.noc_desc.specs.Draft.{IsMemory};
+ghost use Rattle.desc_check.specs.Network.{plan_of_draft};
+ghost use Rattle.desc_check.specs.Faults.{places_fault, attach_fault};
+ghost use Rattle.desc_check.specs.Line.{line_of};
+ghost use Rattle.desc_check.specs.Accepted.{form_fault, domains_fault, tiles_fault, ranges_fault, lists_fault, IsSized, plan_fault, first_fault};
 
-mod judge;
+mod domains;
+mod form;
+mod line;
 mod make;
+mod ranges;
+mod slots;
+#[cfg(test)]
+mod tests;
+mod tiles;
+mod words;
 
 use noc_desc::{DescFault, Draft};
-use noc_model::Plan;
+use noc_model::{Host, Parts, Plan};
 use std::alloc::Global;
 
-/// The plan of an accepted draft. The draft is spent either way.
+/// The first fault of a draft's values and lists: all but those of the plan's sizes and of the slots.
+fn lists_fault(draft: &Draft) -> Option<DescFault>
+    ensures { result ≡ lists_fault draft.now }
+{
+    if let Some(fault) = form::form_fault(draft) {
+        return Some(fault);
+    }
+    if let Some(fault) = domains::domains_fault(draft) {
+        return Some(fault);
+    }
+    let tiles = form::tile_count(draft.dims.as_slice());
+    if let Some(fault) = tiles::tiles_fault(tiles, draft) {
+        return Some(fault);
+    }
+    ranges::ranges_fault(tiles, draft)
+}
+
+/// More than 24,576 places.
+fn places_fault(count: u32) -> Option<DescFault>
+    ensures { result ≡ places_fault count }
+{
+    words::fault_if(count > 24_576, DescFault::PlacesMany(u64::from(count)))
+}
+
+/// More than 256 attachments.
+fn attach_fault(hosts: &[Host]) -> Option<DescFault>
+    ensures { result ≡ attach_fault (length hosts.now) }
+{
+    words::fault_if(hosts.len() > 256, DescFault::AttachMany(hosts.len() as u64))
+}
+
+/// Too many places or attachments.
+fn plan_fault(parts: &Parts) -> Option<DescFault>
+    requires { IsSized (plan_of parts.now) }
+    ensures { result ≡ plan_fault (plan_of parts.now) }
+{
+    if let Some(fault) = places_fault(parts.places()) {
+        return Some(fault);
+    }
+    attach_fault(parts.hosts.as_slice())
+}
+
+/// The plan of a draft without a fault. The draft is spent either way.
 ///
 /// # Errors
 ///
-/// `Refused` exactly where the draft is not accepted, and `Memory` where an allocation was refused.
+/// The draft's first fault, exactly where it has one, and `Memory` where an allocation was refused.
 pub fn check(alloc: Global, draft: Draft) -> Result<Plan, DescFault>
-    ensures ok { IfOk result (λ p. (is_accepted draft ≡ true) × (p ≡ plan_of_draft draft)) }
-    ensures refused { IfErr result (λ e. e ≡ DescFault.Refused → is_accepted draft ≡ false) }
+    ensures ok { IfOk result (λ plan. (first_fault draft ≡ None) × (plan ≡ plan_of_draft draft)) }
+    ensures fault { IfErr result (λ fault. ¬ IsMemory fault → first_fault draft ≡ Some fault) }
 {
-    if !judge::is_formed(&draft) {
-        return Err(DescFault::Refused);
+    if let Some(fault) = lists_fault(&draft) {
+        return Err(fault);
     }
-    let parts = match make::parts_of(alloc, &draft) {
+    let tiles = form::tile_count(draft.dims.as_slice());
+    let parts = match make::parts_of(alloc, tiles, &draft) {
         Ok(parts) => parts,
         Err(error) => return Err(DescFault::Memory(error)),
     };
-    if parts.places() <= 24_576 {
-        Ok(Plan::new(parts))
-    } else {
-        Err(DescFault::Refused)
+    if let Some(fault) = plan_fault(&parts) {
+        return Err(fault);
     }
+    if let Some(fault) = slots::slots_fault(&draft) {
+        return Err(fault);
+    }
+    Ok(Plan::new(parts))
+}
+
+/// Writes the line that tells a fault, with its LF, to the front of `buf`, and answers its length in bytes: `surf:
+/// description fault N` and the fault's indices, each after a blank, or `surf: no memory`.
+pub fn fault_line(fault: &DescFault, buf: &mut [u8; 96]) -> usize
+    ensures written { take result buf.new ≡ line_of fault.now }
+    ensures fits { result ≤ 96 }
+{
+    line::put_line(buf, fault)
 }

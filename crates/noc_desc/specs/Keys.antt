@@ -1,32 +1,76 @@
--- What a table of a description has to have.
-use Rattle.std.specs.Prelude.{ℕ, Bool, true, false, ◌&&◌, ◌||◌, List, [], ◌∷◌, Option, Some, None, is_some, codes}
+-- The tables of a description, and what each has to have.
+use Rattle.std.specs.Prelude.{ℕ, Bool, true, false, not, ◌&&◌, List, [], ◌∷◌, Option, Some, None, is_some, is_none, codes}
+use Rattle.std.specs.List.{list_any}
 use Rattle.std.specs.Str.{bytes_eq}
-use Rattle.toml.specs.Data.{Data, array, Items, no_items, item, Members, no_members, member, get_member, as_integer, as_str, as_table}
+use Rattle.toml.specs.Data.{Data, array, Items, no_items, item, Members, get_member, as_integer, as_str, as_table}
 use Rattle.noc_desc.specs.declared.keys.Kind.{Kind}
-use Rattle.noc_desc.specs.declared.keys.Kind.TheVariants.{Top, Domain}
+use Rattle.noc_desc.specs.declared.keys.Kind.TheVariants.{Top, WeightedTop, Domain, Tile, Range}
+use Rattle.noc_desc.specs.declared.keys.Key.{Key}
+use Rattle.noc_desc.specs.declared.keys.Key.TheVariants.{Version, Shape, Dims, Stages, Buffer, Domains, Tiles, Ranges, Slots, Name, Channels, At, Hosts, InTile, First, Last}
 use Rattle.noc_desc.specs.declared.keys.Element.{Element}
 use Rattle.noc_desc.specs.declared.keys.Element.TheVariants.{Integer, Text, Table}
 use Rattle.noc_desc.specs.declared.keys.Form.{Form}
 use Rattle.noc_desc.specs.declared.keys.Form.TheVariants.{One, Array}
 
--- the names of the keys that a table of this kind has
-abbrev pub names : Kind → List (List ℕ)
-names Top = codes "version" ∷ codes "shape" ∷ codes "dims" ∷ codes "stages" ∷ codes "buffer" ∷ codes "domain" ∷ []
-names Domain = codes "name" ∷ codes "channels" ∷ []
+-- the keys of a table of this kind, by number
+abbrev pub keys : Kind → List Key
+keys Top = Version ∷ Shape ∷ Dims ∷ Stages ∷ Buffer ∷ Domains ∷ Tiles ∷ Ranges ∷ []
+keys WeightedTop = Version ∷ Shape ∷ Dims ∷ Stages ∷ Buffer ∷ Domains ∷ Tiles ∷ Ranges ∷ Slots ∷ []
+keys Domain = Name ∷ Channels ∷ []
+keys Tile = At ∷ Hosts ∷ []
+keys Range = InTile ∷ First ∷ Last ∷ []
 
--- the key is one of these
-abbrev pub is_among : List ℕ → List (List ℕ) → Bool
-is_among key [] = false
-is_among key (name ∷ more) = bytes_eq key name || is_among key more
+-- how a key is written
+abbrev pub name : Key → List ℕ
+name Version = codes "version"
+name Shape = codes "shape"
+name Dims = codes "dims"
+name Stages = codes "stages"
+name Buffer = codes "buffer"
+name Domains = codes "domain"
+name Tiles = codes "tile"
+name Ranges = codes "range"
+name Slots = codes "slots"
+name Name = codes "name"
+name Channels = codes "channels"
+name At = codes "at"
+name Hosts = codes "domains"
+name InTile = codes "tile"
+name First = codes "first"
+name Last = codes "last"
 
--- a table of this kind has such a key
+-- what a key's value is
+abbrev pub form_of : Key → Form
+form_of Version = One Integer
+form_of Shape = One Text
+form_of Dims = Array Integer
+form_of Stages = One Integer
+form_of Buffer = One Integer
+form_of Domains = Array Table
+form_of Tiles = Array Table
+form_of Ranges = Array Table
+form_of Slots = Array Text
+form_of Name = One Text
+form_of Channels = One Integer
+form_of At = One Integer
+form_of Hosts = Array Text
+form_of InTile = One Integer
+form_of First = One Integer
+form_of Last = One Integer
+
+-- the key has to be there
+abbrev pub is_required : Key → Bool
+is_required Tiles = false
+is_required Ranges = false
+is_required _ = true
+
+-- a table of this kind has a key that is written so
 abbrev pub is_listed : Kind → List ℕ → Bool
-is_listed kind key = is_among key (names kind)
+is_listed kind written = list_any (λ key. bytes_eq written (name key)) (keys kind)
 
--- each key of the table is listed
-abbrev pub has_only : Kind → Members → Bool
-has_only kind no_members = true
-has_only kind (member key d more) = is_listed kind key && has_only kind more
+-- the value at a key
+abbrev pub value_at : Key → Members → Option Data
+value_at key members = get_member (name key) members
 
 -- the value is an integer, a string or a table
 abbrev pub fits_element : Element → Data → Bool
@@ -45,11 +89,15 @@ fits (One e) d = fits_element e d
 fits (Array e) (array items) = all_fit e items
 fits (Array e) _ = false
 
--- what a look-up found has the form
-abbrev pub found_fits : Form → Option Data → Bool
-found_fits form None = false
-found_fits form (Some d) = fits form d
+-- a value was found, and is of another form
+abbrev pub other_form : Form → Option Data → Bool
+other_form form None = false
+other_form form (Some d) = not (fits form d)
 
--- the key is there, with a value of the form
-abbrev pub holds : Form → List ℕ → Members → Bool
-holds form key members = found_fits form (get_member key members)
+-- the key has to be there, and is absent
+abbrev pub is_missing : Members → Key → Bool
+is_missing members key = is_required key && is_none (value_at key members)
+
+-- the key is there, with a value of another form
+abbrev pub is_misfit : Members → Key → Bool
+is_misfit members key = other_form (form_of key) (value_at key members)

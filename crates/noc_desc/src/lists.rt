@@ -2,9 +2,10 @@
 
 ghost use Rattle.std.specs.Prelude.{◌≡◌, ◌<◌, [], ◌∷◌, ◌++◌, length, slice_get, Some, OnOk, OnErr};
 
-use crate::DraftDomain;
+use crate::{DraftDomain, DraftRange, DraftTile};
 use std::alloc::{AllocError, Global};
 use std::marker::Model;
+use surf_base::Bytes;
 
 /// A list of whole numbers.
 #[derive(Drop)]
@@ -62,6 +63,62 @@ impl Nums {
     }
 }
 
+/// A list of names, in UTF-8.
+#[derive(Drop)]
+pub struct Names {
+    items: Vec<Bytes>,
+}
+
+impl Model for Names {
+    ghost use Rattle.std.specs.Prelude.{List, ℕ};
+
+    ghost Value = { List (List ℕ) };
+
+    ghost view = { λ a. a.items.items };
+}
+
+impl Names {
+    /// No names. Takes no memory.
+    pub fn new(alloc: Global) -> Self
+        ensures { result ≡ [] }
+    {
+        Names {
+            items: Vec::new(alloc),
+        }
+    }
+
+    /// Adds a name at the end. On an error the list is as it was.
+    pub fn push(&mut self, item: Bytes) -> Result<(), AllocError>
+        ensures ok { OnOk result (self.new ≡ self.old ++ item ∷ []) }
+        ensures err { OnErr result (self.new ≡ self.old) }
+    {
+        self.items.push(item)?;
+        Ok(())
+    }
+
+    /// How many there are.
+    pub fn len(&self) -> usize
+        ensures { result ≡ length self.now }
+    {
+        self.items.len()
+    }
+
+    /// The name at an index, from 0.
+    pub fn at(&self, i: usize) -> &Bytes
+        requires { i < length self.now }
+        ensures { slice_get self.now i ≡ Some result.now }
+    {
+        &self.items[i]
+    }
+
+    /// The names, in order.
+    pub fn as_slice(&self) -> &[Bytes]
+        ensures { result.now ≡ self.now }
+    {
+        self.items.as_slice()
+    }
+}
+
 /// The domains of a draft, in order.
 #[derive(Drop)]
 pub struct DraftDomains {
@@ -70,9 +127,9 @@ pub struct DraftDomains {
 
 impl Model for DraftDomains {
     ghost use Rattle.std.specs.Prelude.{List};
-    ghost use Rattle.noc_desc.specs.declared.DraftDomain.{DraftDomain as DomainValue};
+    ghost use Rattle.noc_desc.specs.declared.DraftDomain.{DraftDomain as DraftDomainValue};
 
-    ghost Value = { List DomainValue };
+    ghost Value = { List DraftDomainValue };
 
     ghost view = { λ a. a.items.items };
 }
@@ -113,6 +170,120 @@ impl DraftDomains {
 
     /// The domains, in order.
     pub fn as_slice(&self) -> &[DraftDomain]
+        ensures { result.now ≡ self.now }
+    {
+        self.items.as_slice()
+    }
+}
+
+/// The tiles of a draft that have attachments, in order.
+#[derive(Drop)]
+pub struct DraftTiles {
+    items: Vec<DraftTile>,
+}
+
+impl Model for DraftTiles {
+    ghost use Rattle.std.specs.Prelude.{List};
+    ghost use Rattle.noc_desc.specs.declared.DraftTile.{DraftTile as DraftTileValue};
+
+    ghost Value = { List DraftTileValue };
+
+    ghost view = { λ a. a.items.items };
+}
+
+impl DraftTiles {
+    /// No tiles. Takes no memory.
+    pub fn new(alloc: Global) -> Self
+        ensures { result ≡ [] }
+    {
+        DraftTiles {
+            items: Vec::new(alloc),
+        }
+    }
+
+    /// Adds a tile at the end. On an error the list is as it was.
+    pub fn push(&mut self, item: DraftTile) -> Result<(), AllocError>
+        ensures ok { OnOk result (self.new ≡ self.old ++ item ∷ []) }
+        ensures err { OnErr result (self.new ≡ self.old) }
+    {
+        self.items.push(item)?;
+        Ok(())
+    }
+
+    /// How many there are.
+    pub fn len(&self) -> usize
+        ensures { result ≡ length self.now }
+    {
+        self.items.len()
+    }
+
+    /// The tile at an index, from 0.
+    pub fn at(&self, i: usize) -> &DraftTile
+        requires { i < length self.now }
+        ensures { slice_get self.now i ≡ Some result.now }
+    {
+        &self.items[i]
+    }
+
+    /// The tiles, in order.
+    pub fn as_slice(&self) -> &[DraftTile]
+        ensures { result.now ≡ self.now }
+    {
+        self.items.as_slice()
+    }
+}
+
+/// The address ranges of a draft, in order.
+#[derive(Drop)]
+pub struct DraftRanges {
+    items: Vec<DraftRange>,
+}
+
+impl Model for DraftRanges {
+    ghost use Rattle.std.specs.Prelude.{List};
+    ghost use Rattle.noc_desc.specs.declared.DraftRange.{DraftRange as DraftRangeValue};
+
+    ghost Value = { List DraftRangeValue };
+
+    ghost view = { λ a. a.items.items };
+}
+
+impl DraftRanges {
+    /// No ranges. Takes no memory.
+    pub fn new(alloc: Global) -> Self
+        ensures { result ≡ [] }
+    {
+        DraftRanges {
+            items: Vec::new(alloc),
+        }
+    }
+
+    /// Adds a range at the end. On an error the list is as it was.
+    pub fn push(&mut self, item: DraftRange) -> Result<(), AllocError>
+        ensures ok { OnOk result (self.new ≡ self.old ++ item ∷ []) }
+        ensures err { OnErr result (self.new ≡ self.old) }
+    {
+        self.items.push(item)?;
+        Ok(())
+    }
+
+    /// How many there are.
+    pub fn len(&self) -> usize
+        ensures { result ≡ length self.now }
+    {
+        self.items.len()
+    }
+
+    /// The range at an index, from 0.
+    pub fn at(&self, i: usize) -> &DraftRange
+        requires { i < length self.now }
+        ensures { slice_get self.now i ≡ Some result.now }
+    {
+        &self.items[i]
+    }
+
+    /// The ranges, in order.
+    pub fn as_slice(&self) -> &[DraftRange]
         ensures { result.now ≡ self.now }
     {
         self.items.as_slice()

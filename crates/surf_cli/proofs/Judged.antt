@@ -1,20 +1,38 @@
--- The plan in a description, from its draft.
-use Rattle.std.proofs.Common.{◌≡◌, ℕ, List, true, false, ap, sym, ◌∙◌}
-use Rattle.std.specs.Prelude.{Some, None, if◌then◌else◌, option_and_then}
+-- What a description says, from what its parts say.
+use Rattle.std.proofs.Common.{◌≡◌, ◌⊎◌, inl, inr, ℕ, List, ap, sym, ◌∙◌}
+use Rattle.std.specs.Prelude.{Some, None}
 use Rattle.noc_model.specs.Plan.{Plan}
-use Rattle.noc_desc.specs.Draft.{draft_of}
+use Rattle.noc_desc.specs.Draft as table
+use Rattle.noc_desc.specs.Draft.{draft_of, IsMemory}
 use Rattle.noc_desc.specs.declared.Draft.{Draft}
-use Rattle.desc_check.specs.Accepted.{is_accepted, plan_of_draft}
-use Rattle.surf_cli.specs.Meaning.{plan_in, accepted}
+use Rattle.noc_desc.specs.declared.DescFault.{DescFault}
+use Rattle.desc_check.specs.Network.{plan_of_draft}
+use Rattle.desc_check.specs.Accepted.{first_fault}
+use Rattle.surf_cli.specs.declared.statuses.End.{End}
+use Rattle.surf_cli.specs.declared.statuses.End.TheVariants.{Memory, Description}
+use Rattle.surf_cli.specs.Meaning.{Faulty, Described, judged, judged_draft, judged_plan}
+use Rattle.surf_cli.specs.Runs.{IsFaulty}
 
-pub plan_in-no_draft : (bytes : List ℕ) → draft_of bytes ≡ None → plan_in bytes ≡ None
-unfolding plan_in
-plan_in-no_draft bytes e = ap (option_and_then accepted) e
+-- the table has a fault
+pub judged-table : (bytes : List ℕ) (f : DescFault) → table.first_fault bytes ≡ Some f → judged bytes ≡ Faulty f
+unfolding judged
+judged-table bytes f e = ap (λ x. judged_draft x (draft_of bytes)) e
 
-pub plan_in-accepted : (bytes : List ℕ) (d : Draft) (p : Plan) → draft_of bytes ≡ Some d → is_accepted d ≡ true → p ≡ plan_of_draft d → plan_in bytes ≡ Some p
-unfolding plan_in
-plan_in-accepted bytes d p e fits is = ap (option_and_then accepted) e ∙ ap (λ b. if b then Some (plan_of_draft d) else None) fits ∙ ap Some (sym is)
+-- the draft has a fault
+pub judged-fault : (bytes : List ℕ) (d : Draft) (f : DescFault) → draft_of bytes ≡ Some d → table.first_fault bytes ≡ None → first_fault d ≡ Some f → judged bytes ≡ Faulty f
+unfolding judged
+judged-fault bytes d f e clean faulty =
+    ap (λ x. judged_draft x (draft_of bytes)) clean ∙ ap (judged_draft None) e ∙ ap (λ x. judged_plan x (plan_of_draft d)) faulty
 
-pub plan_in-refused : (bytes : List ℕ) (d : Draft) → draft_of bytes ≡ Some d → is_accepted d ≡ false → plan_in bytes ≡ None
-unfolding plan_in
-plan_in-refused bytes d e unfit = ap (option_and_then accepted) e ∙ ap (λ b. if b then Some (plan_of_draft d) else None) unfit
+-- there is no fault
+pub judged-described : (bytes : List ℕ) (d : Draft) (p : Plan) → draft_of bytes ≡ Some d → table.first_fault bytes ≡ None → first_fault d ≡ None → p ≡ plan_of_draft d
+    → judged bytes ≡ Described p
+unfolding judged
+judged-described bytes d p e clean good is =
+    ap (λ x. judged_draft x (draft_of bytes)) clean ∙ ap (judged_draft None) e ∙ ap (λ x. judged_plan x (plan_of_draft d)) good ∙ ap Described (sym is)
+
+-- how a run ends that meets this fault
+pub ends-faulty : (bytes : List ℕ) (f : DescFault) (end : End) → (end ≡ Memory) ⊎ ((IsMemory f → ⊥) × (end ≡ Description f)) → ((IsMemory f → ⊥) → judged bytes ≡ Faulty f)
+    → (end ≡ Memory) ⊎ IsFaulty bytes end
+ends-faulty bytes f end (inl e) h = inl e
+ends-faulty bytes f end (inr e) h = inr record { fault = f; says = h e.0; told = e.0; is = e.1 }

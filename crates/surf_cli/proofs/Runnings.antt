@@ -1,15 +1,16 @@
--- A run whose description was read and accepted.
-use Rattle.std.proofs.Common.{◌⊎◌, inl, inr, ◌≡◌, ◌≢◌, ℕ, ◌≤◌, List, length, refl, sym, ap, ◌∙◌, subst, arith, true, false}
-use Rattle.std.specs.Prelude.{Option, Some, None, nat_le, if◌then◌else◌}
+-- A run, from what was read and what was written.
+use Rattle.std.proofs.Common.{◌⊎◌, inl, inr, ◌≡◌, ◌≢◌, ℕ, ◌≤◌, List, length, refl, sym, ap, ◌∙◌, subst, arith, true}
+use Rattle.std.specs.Prelude.{Option, Some, None, nat_le}
 use Rattle.std.proofs.lemmas.Bool.Decides.{nat_tests}
 use Rattle.surf_base.specs.Outside.{Held, Untold, Absent, Holds, Rose, appended, GotPrefix}
 use Rattle.noc_model.specs.Plan.{Plan}
-use Rattle.surf_cli.specs.declared.statuses.Status.{Status}
-use Rattle.surf_cli.specs.declared.statuses.Status.TheVariants.{Good, Usage, Description, Read, Write, Memory, TooLong}
-use Rattle.surf_cli.specs.Commands.{Command, Schedule, files_named}
-use Rattle.surf_cli.specs.Schedule.{schedule_text}
-use Rattle.surf_cli.specs.Meaning.{plan_in, meaning, Outcome, done, with_plan, with_file}
-use Rattle.surf_cli.specs.Runs.{Outside, Runs, WritesOut, HasCause, IsMeant, Sends, TellsAll, NamesAbsent}
+use Rattle.surf_cli.specs.declared.statuses.End.{End}
+use Rattle.surf_cli.specs.declared.statuses.End.TheVariants.{Good, Usage, Description, Read, Write, Memory, TooLong}
+use Rattle.surf_cli.specs.Commands.{Command, description_of, files_named}
+use Rattle.surf_cli.specs.Lines.{status_of}
+use Rattle.surf_cli.specs.declared.statuses.Status.TheVariants as status
+use Rattle.surf_cli.specs.Meaning.{judged, Described, Faulty, with_description, meaning, Outcome, done, answer_text}
+use Rattle.surf_cli.specs.Runs.{Outside, Runs, WritesOut, IsMeant, Sends, TellsAll, NamesAbsent, GotPlan, GotNone, IsFaulty}
 
 -- what the file holds was read, where that is told
 pub record WasRead (held : Held) (bytes : List ℕ) : Type 0 where
@@ -17,71 +18,106 @@ pub record WasRead (held : Held) (bytes : List ℕ) : Type 0 where
   pub content : (told : List ℕ) → held ≡ Holds told → bytes ≡ told
   pub short : length bytes ≤ 1048576
 
--- the meaning of a schedule whose description was read and accepted
-meant-done : (held : List ℕ → Held) (name bytes : List ℕ) (cycles : ℕ) (plan : Plan) → WasRead (held name) bytes → plan_in bytes ≡ Some plan
-    → held name ≢ Untold → meaning held (Some (Schedule name cycles)) ≡ done (schedule_text plan cycles)
-meant-done held name bytes cycles plan read accepted told = go (held name) refl
-  where
-    go : (h : Held) → held name ≡ h → meaning held (Some (Schedule name cycles)) ≡ done (schedule_text plan cycles)
-    go Untold e = absurd (told e)
-    go Absent e = absurd (read.present e)
-    go (Holds content) e =
-        let same : bytes ≡ content = read.content content e in
-        let short : nat_le (length content) 1048576 ≡ true = (let s = read.short in let l = ap length same in grind (arith, nat_tests)) in
-        let plan_is : plan_in content ≡ Some plan = sym (ap plan_in same) ∙ accepted in
-        rw (e, short, plan_is) refl
+fits : (bytes told : List ℕ) → bytes ≡ told → length bytes ≤ 1048576 → nat_le (length told) 1048576 ≡ true
+fits bytes told e s = (let l = ap length e in grind (arith, nat_tests))
 
-pub Runs-schedule : (name bytes : List ℕ) (cycles : ℕ) (plan : Plan) (status : Status) (old new : Outside)
-    → new.held ≡ old.held → old.file_faults ≤ new.file_faults → new.taken ≤ 1048576 → WasRead (old.held name) bytes → plan_in bytes ≡ Some plan
-    → WritesOut status old.written new.written old.faults new.faults (schedule_text plan cycles) → Runs (Some (Schedule name cycles)) old status new
-Runs-schedule name bytes cycles plan Good old new held faults within was accepted out = record {
+-- a description that was read, and has a plan
+pub described : (held : Held) (bytes : List ℕ) (plan : Plan) → WasRead held bytes → judged bytes ≡ Described plan
+    → held ≢ Untold → (next : Plan → Outcome) → with_description held next ≡ next plan
+described Untold bytes plan was j told next = absurd (told refl)
+described Absent bytes plan was j told next = absurd (was.present refl)
+described (Holds content) bytes plan was j told next =
+    let same : bytes ≡ content = was.content content refl in
+    let is : judged content ≡ Described plan = ap judged (sym same) ∙ j in
+    rw (fits bytes content same was.short, is) refl
+
+-- a description that was read, and has a fault
+pub faulted : (held : Held) (bytes : List ℕ) (end : End) → WasRead held bytes → IsFaulty bytes end
+    → held ≢ Untold → (next : Plan → Outcome) → IsMeant (with_description held next) end
+faulted Untold bytes end was f told next = absurd (told refl)
+faulted Absent bytes end was f told next = absurd (was.present refl)
+faulted (Holds content) bytes end was f told next =
+    let same : bytes ≡ content = was.content content refl in
+    let is : judged content ≡ Faulty f.fault = ap judged (sym same) ∙ f.says in
+    rw (f.is, fits bytes content same was.short, is) refl
+
+-- a request whose description was read and accepted
+pub Runs-answer : (command : Command) (plan : Plan) (end : End) (old new : Outside)
+    → GotPlan (description_of command) old.held new.held old.file_faults new.file_faults new.taken plan
+    → WritesOut end old.written new.written old.faults new.faults (answer_text command plan) → Runs (Some command) old end new
+Runs-answer command plan Good old new got out = record {
   usage = (λ e. absurd cc, λ e. absurd cc);
-  held = held;
-  file_faults = faults;
+  held = got.stays;
+  file_faults = got.counts;
   faults = out.1;
-  cause = within;
-  meant = λ told. ap (λ (m : Outcome). m.status) (meant-done old.held name bytes cycles plan was accepted told.0);
-  sends = λ told. out.0 ∙ ap (λ (m : Outcome). appended old.written m.bytes) (sym (meant-done old.held name bytes cycles plan was accepted told.0));
+  cause = got.within;
+  meant = λ told. ap (λ (m : Outcome). m.end) (got.meant told.0 (λ p. done (answer_text command p)));
+  sends = λ told. out.0 ∙ ap (λ (m : Outcome). appended old.written m.bytes) (sym (got.meant told.0 (λ p. done (answer_text command p))));
   silent = λ a b. absurd (a refl);
 }
-Runs-schedule name bytes cycles plan Write old new held faults within was accepted out = record {
+Runs-answer command plan Write old new got out = record {
   usage = (λ e. absurd cc, λ e. absurd cc);
-  held = held;
-  file_faults = faults;
+  held = got.stays;
+  file_faults = got.counts;
   faults = out.1;
-  cause = (out.2, within);
-  meant = λ told. ap (λ (m : Outcome). m.status) (meant-done old.held name bytes cycles plan was accepted told.0);
-  sends = λ told. subst (λ (m : Outcome). GotPrefix old.written new.written m.bytes) (sym (meant-done old.held name bytes cycles plan was accepted told.0)) out.0;
+  cause = (out.2, got.within);
+  meant = λ told. ap (λ (m : Outcome). m.end) (got.meant told.0 (λ p. done (answer_text command p)));
+  sends = λ told. subst (λ (m : Outcome). GotPrefix old.written new.written m.bytes) (sym (got.meant told.0 (λ p. done (answer_text command p)))) out.0;
   silent = λ a b. absurd (b refl);
 }
-Runs-schedule name bytes cycles plan Memory old new held faults within was accepted out = record {
+Runs-answer command plan Memory old new got out = record {
   usage = (λ e. absurd cc, λ e. absurd cc);
-  held = held;
-  file_faults = faults;
+  held = got.stays;
+  file_faults = got.counts;
   faults = out.1;
   cause = tt;
   meant = λ told. tt;
   sends = λ told. out.0;
   silent = λ a b. out.0;
 }
-Runs-schedule name bytes cycles plan Usage old new held faults within was accepted out = absurd out
-Runs-schedule name bytes cycles plan Description old new held faults within was accepted out = absurd out
-Runs-schedule name bytes cycles plan Read old new held faults within was accepted out = absurd out
-Runs-schedule name bytes cycles plan TooLong old new held faults within was accepted out = absurd out
+Runs-answer command plan Usage old new got out = absurd out
+Runs-answer command plan (Description f) old new got out = absurd out
+Runs-answer command plan Read old new got out = absurd out
+Runs-answer command plan TooLong old new got out = absurd out
+
+-- nothing is sent where neither all was nor writing failed
+sends-nothing : (bytes : List ℕ) (end : End) (old new : Option (List ℕ)) → end ≢ Good → end ≢ Write → new ≡ old → Sends bytes end old new
+sends-nothing bytes Good old new good write e = absurd (good refl)
+sends-nothing bytes Write old new good write e = absurd (write refl)
+sends-nothing bytes Usage old new good write e = e
+sends-nothing bytes (Description f) old new good write e = e
+sends-nothing bytes Read old new good write e = e
+sends-nothing bytes Memory old new good write e = e
+sends-nothing bytes TooLong old new good write e = e
+
+-- a request whose description was not read, or has a fault
+pub Runs-none : (command : Command) (end : End) (old new : Outside)
+    → GotNone (description_of command) old.held new.held old.file_faults new.file_faults new.taken end
+    → new.written ≡ old.written → new.faults ≡ old.faults → Runs (Some command) old end new
+Runs-none command end old new got written faults = record {
+  usage = (λ e. absurd (got.is_command e), λ e. absurd cc);
+  held = got.stays;
+  file_faults = got.counts;
+  faults = omega (arith, faults);
+  cause = got.cause old new refl refl refl refl;
+  meant = λ told. got.meant told.0 (λ p. done (answer_text command p));
+  sends = λ told. sends-nothing (meaning old.held (Some command)).bytes end old.written new.written got.is_bad got.is_early written;
+  silent = λ a b. written;
+}
 
 -- a command whose file is absent means that it can't be read
-absent-meant : (held : List ℕ → Held) (command : Option Command) → NamesAbsent held (files_named command) → (meaning held command).status ≡ Read
+absent-meant : (held : List ℕ → Held) (command : Option Command) → NamesAbsent held (files_named command) → (meaning held command).end ≡ Read
 absent-meant held None h = absurd h
-absent-meant held (Some (Schedule name cycles)) (inl e) = rw e refl
-absent-meant held (Some (Schedule name cycles)) (inr h) = absurd h
+absent-meant held (Some command) (inl e) = rw e refl
+absent-meant held (Some command) (inr h) = absurd h
 
 -- where all is told and nothing failed, the status is the command's meaning, or memory was wanting
-pub Runs-complete : (command : Option Command) (old new : Outside) (status : Status) → Runs command old status new → TellsAll old.held (files_named command)
-    → (Rose old.file_faults new.file_faults → ⊥) → (Rose old.faults new.faults → ⊥) → (status ≡ Memory) ⊎ (status ≡ (meaning old.held command).status)
-Runs-complete command old new Good h told files sink = inr (sym (h.meant told))
-Runs-complete command old new Usage h told files sink = inr (sym (h.meant told))
-Runs-complete command old new Description h told files sink = inr (sym (h.meant told))
-Runs-complete command old new TooLong h told files sink = inr (sym (h.meant told))
+pub Runs-complete : (command : Option Command) (old new : Outside) (end : End) → Runs command old end new → TellsAll old.held (files_named command)
+    → (Rose old.file_faults new.file_faults → ⊥) → (Rose old.faults new.faults → ⊥) → (status_of end ≡ status.Memory) ⊎ (status_of end ≡ status_of (meaning old.held command).end)
+Runs-complete command old new Good h told files sink = inr (ap status_of (sym (h.meant told)))
+Runs-complete command old new Usage h told files sink = inr (ap status_of (sym (h.meant told)))
+Runs-complete command old new (Description f) h told files sink = inr (ap status_of (sym (h.meant told)))
+Runs-complete command old new TooLong h told files sink = inr (ap status_of (sym (h.meant told)))
 Runs-complete command old new Memory h told files sink = inl refl
 Runs-complete command old new Write h told files sink = absurd (sink h.cause.0)
-Runs-complete command old new Read h told files sink = elim h.cause [ inl rose ↦ absurd (files rose) | inr gone ↦ inr (sym (absent-meant old.held command gone)) ]
+Runs-complete command old new Read h told files sink = elim h.cause [ inl rose ↦ absurd (files rose) | inr gone ↦ inr (ap status_of (sym (absent-meant old.held command gone))) ]

@@ -6,6 +6,7 @@ use Rattle.surf_base.specs.Numbers.{decimal_in}
 -- what a command asks for, with the names of its files
 pub data Command : Type 0 where
   Schedule : (description : List ℕ) → (cycles : ℕ) → Command
+  Check : (description : List ℕ) → Command
 
 -- a name and a count
 abbrev pub schedule_of : List ℕ → List ℕ → Option Command
@@ -14,16 +15,26 @@ schedule_of description cycles = option_map (Schedule description) (decimal_in 4
 -- the command that the words are; nothing where they are no row of the table of commands
 abbrev pub command_of : List (List ℕ) → Option Command
 command_of (verb ∷ description ∷ cycles ∷ []) = if bytes_eq verb (codes "schedule") then schedule_of description cycles else None
+command_of (verb ∷ description ∷ []) = if bytes_eq verb (codes "check") then Some (Check description) else None
 command_of _ = None
+
+-- the name of a command's description
+abbrev pub description_of : Command → List ℕ
+description_of (Schedule description cycles) = description
+description_of (Check description) = description
 
 -- a file that a command names, and the most bytes that it may have
 pub record NamedFile : Type 0 where
   pub name : List ℕ
   pub limit : ℕ
 
+-- the file of a description
+abbrev pub description_file : List ℕ → NamedFile
+description_file name = record { name = name; limit = 1048576 }
+
 -- the files of a command, in the order of its words
 abbrev pub files_of : Command → List NamedFile
-files_of (Schedule description cycles) = record { name = description; limit = 1048576 } ∷ []
+files_of command = description_file (description_of command) ∷ []
 
 -- the files that the words name
 abbrev pub files_named : Option Command → List NamedFile

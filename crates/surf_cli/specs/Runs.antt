@@ -2,10 +2,15 @@
 use Rattle.std.specs.Prelude.{◌≡◌, ◌≢◌, ℕ, ◌+◌, ◌≤◌, ◌⊎◌, ◌↔◌, List, [], ◌∷◌, Option, None}
 use Rattle.std.specs.List.{AllByRecursion}
 use Rattle.surf_base.specs.Outside.{Held, Untold, Absent, Rose, appended, GotPrefix}
-use Rattle.surf_cli.specs.Commands.{Command, NamedFile, files_named}
-use Rattle.surf_cli.specs.Meaning.{Outcome, meaning}
+use Rattle.noc_model.specs.Plan.{Plan}
+use Rattle.noc_desc.specs.Draft.{IsMemory}
+use Rattle.noc_desc.specs.declared.DescFault.{DescFault}
+use Rattle.surf_cli.specs.Commands.{Command, NamedFile, description_file, files_named}
+use Rattle.surf_cli.specs.Meaning.{Outcome, Faulty, judged, with_description, meaning}
+use Rattle.surf_cli.specs.Lines.{Says, line_of, status_of}
 use Rattle.surf_cli.specs.declared.statuses.Status.{Status}
-use Rattle.surf_cli.specs.declared.statuses.Status.TheVariants.{Good, Usage, Description, Read, Write, Memory, TooLong}
+use Rattle.surf_cli.specs.declared.statuses.End.{End}
+use Rattle.surf_cli.specs.declared.statuses.End.TheVariants.{Good, Usage, Description, Read, Write, Memory, TooLong}
 
 -- The outside at a moment: what is told of each name, the bytes taken since the last opening and the count of faults of
 -- the files; what the sink has, where it tells that, and its count of faults.
@@ -40,47 +45,78 @@ WithinLast taken [] = Unit {0}
 WithinLast taken (file ∷ []) = taken ≤ file.limit
 WithinLast taken (file ∷ files) = WithinLast taken files
 
--- a status is what a told command means: where all was read, exactly; writing may fail, and memory may be wanting
-abbrev pub IsMeant : Outcome → Status → Type 0
-IsMeant m Good = m.status ≡ Good
-IsMeant m Write = m.status ≡ Good
-IsMeant m Usage = m.status ≡ Usage
-IsMeant m Description = m.status ≡ Description
-IsMeant m TooLong = m.status ≡ TooLong
+-- a run ends as a told command means: where all was read, exactly; writing may fail, and memory may be wanting
+abbrev pub IsMeant : Outcome → End → Type 0
+IsMeant m Good = m.end ≡ Good
+IsMeant m Write = m.end ≡ Good
+IsMeant m Usage = m.end ≡ Usage
+IsMeant m (Description fault) = m.end ≡ Description fault
+IsMeant m TooLong = m.end ≡ TooLong
 IsMeant m Read = Unit {0}
 IsMeant m Memory = Unit {0}
 
 -- the bytes that went to the sink: all of the right ones, a prefix of them, or none
-abbrev pub Sends : List ℕ → Status → Option (List ℕ) → Option (List ℕ) → Type 0
+abbrev pub Sends : List ℕ → End → Option (List ℕ) → Option (List ℕ) → Type 0
 Sends bytes Good old new = new ≡ appended old bytes
 Sends bytes Write old new = GotPrefix old new bytes
 Sends bytes _ old new = new ≡ old
 
--- the cause of a status, where it is not in what was read
-abbrev pub HasCause : List NamedFile → Status → Outside → Outside → Type 0
+-- the cause of an end, where it is not in what was read
+abbrev pub HasCause : List NamedFile → End → Outside → Outside → Type 0
 HasCause files Read old new = Rose old.file_faults new.file_faults ⊎ NamesAbsent old.held files
 HasCause files Write old new = Rose old.faults new.faults × WithinLast new.taken files
 HasCause files TooLong old new = PassesLimit new.taken files
 HasCause files Good old new = WithinLast new.taken files
-HasCause files Description old new = WithinLast new.taken files
+HasCause files (Description fault) old new = (IsMemory fault → ⊥) × WithinLast new.taken files
 HasCause files _ old new = Unit {0}
 
 -- What a run says: words that are no command are refused, and no others; what is held stays, and counts do not fall; the
--- status has its cause; where all files are told, the status and the bytes are the command's meaning; and nothing is
--- written where neither all was nor writing failed.
-pub record Runs (command : Option Command) (old : Outside) (status : Status) (new : Outside) : Type 0 where
-  pub usage : (status ≡ Usage) ↔ (command ≡ None)
+-- end has its cause; where all files are told, the end and the bytes are the command's meaning; and nothing is written
+-- where neither all was nor writing failed.
+pub record Runs (command : Option Command) (old : Outside) (end : End) (new : Outside) : Type 0 where
+  pub usage : (end ≡ Usage) ↔ (command ≡ None)
   pub held : new.held ≡ old.held
   pub file_faults : old.file_faults ≤ new.file_faults
   pub faults : old.faults ≤ new.faults
-  pub cause : HasCause (files_named command) status old new
-  pub meant : TellsAll old.held (files_named command) → IsMeant (meaning old.held command) status
-  pub sends : TellsAll old.held (files_named command) → Sends (meaning old.held command).bytes status old.written new.written
-  pub silent : status ≢ Good → status ≢ Write → new.written ≡ old.written
+  pub cause : HasCause (files_named command) end old new
+  pub meant : TellsAll old.held (files_named command) → IsMeant (meaning old.held command) end
+  pub sends : TellsAll old.held (files_named command) → Sends (meaning old.held command).bytes end old.written new.written
+  pub silent : end ≢ Good → end ≢ Write → new.written ≡ old.written
+
+-- a run of the program: it ends with a status, whose line is on the error stream
+pub record Ends (command : Option Command) (old : Outside) (status : Status) (new : Outside) (said said' : Option (List ℕ)) (faults faults' : ℕ) : Type 0 where
+  pub end : End
+  pub is : status ≡ status_of end
+  pub runs : Runs command old end new
+  pub line : Says (line_of end) said said' faults faults'
 
 -- what writing says of its bytes: all, a prefix where the sink failed, or none where memory was wanting
-abbrev pub WritesOut : Status → Option (List ℕ) → Option (List ℕ) → ℕ → ℕ → List ℕ → Type 0
+abbrev pub WritesOut : End → Option (List ℕ) → Option (List ℕ) → ℕ → ℕ → List ℕ → Type 0
 WritesOut Good old new faults faults' bytes = (new ≡ appended old bytes) × (faults ≤ faults')
 WritesOut Write old new faults faults' bytes = GotPrefix old new bytes × (faults ≤ faults') × Rose faults faults'
 WritesOut Memory old new faults faults' bytes = (new ≡ old) × (faults ≤ faults')
 WritesOut _ old new faults faults' bytes = ⊥
+
+-- a description was read, and this is its plan
+pub record GotPlan (name : List ℕ) (held held' : List ℕ → Held) (faults faults' taken : ℕ) (plan : Plan) : Type 0 where
+  pub stays : held' ≡ held
+  pub counts : faults ≤ faults'
+  pub within : taken ≤ 1048576
+  pub meant : held name ≢ Untold → (next : Plan → Outcome) → with_description (held name) next ≡ next plan
+
+-- a description was not read, or has a fault: a run ends so, whatever it would have gone on to
+pub record GotNone (name : List ℕ) (held held' : List ℕ → Held) (faults faults' taken : ℕ) (end : End) : Type 0 where
+  pub stays : held' ≡ held
+  pub counts : faults ≤ faults'
+  pub is_command : end ≢ Usage
+  pub is_bad : end ≢ Good
+  pub is_early : end ≢ Write
+  pub cause : (old new : Outside) → old.held ≡ held → old.file_faults ≡ faults → new.file_faults ≡ faults' → new.taken ≡ taken → HasCause (description_file name ∷ []) end old new
+  pub meant : held name ≢ Untold → (next : Plan → Outcome) → IsMeant (with_description (held name) next) end
+
+-- a fault of a description, which is no want of memory
+pub record IsFaulty (bytes : List ℕ) (end : End) : Type 0 where
+  pub fault : DescFault
+  pub says : judged bytes ≡ Faulty fault
+  pub told : IsMemory fault → ⊥
+  pub is : end ≡ Description fault

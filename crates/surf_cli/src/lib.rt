@@ -8,10 +8,11 @@
 ghost use Rattle.std.specs.Prelude.{◌≡◌, ◌↔◌, ◌⊎◌, map, string_bytes, None};
 ghost use Rattle.surf_base.specs.Outside.{Rose, appended, GotPrefix};
 ghost use Rattle.surf_cli.specs.Commands.{command_of, files_named};
-ghost use Rattle.surf_cli.specs.Lines.{line_of, Says};
+ghost use Rattle.surf_cli.specs.Lines.{status_of};
 ghost use Rattle.surf_cli.specs.Meaning.{meaning};
-ghost use Rattle.surf_cli.specs.Runs.{Runs, outside, TellsAll};
+ghost use Rattle.surf_cli.specs.Runs.{Ends, outside, TellsAll};
 
+mod accepted;
 mod run;
 mod statuses;
 mod table;
@@ -35,25 +36,21 @@ pub fn surf<F: Files, O: Sink, E: Sink>(
     // Words that are no command open nothing and write nothing.
     ensures idle { result ≡ Status.Usage → (files.new ≡ files.old) × (out.new ≡ out.old) }
 
-    // The status with its cause, and what is on `out`.
-    ensures runs { Runs (command_of (map string_bytes words.now.items))
+    // The status with its cause, what is on `out`, and the line that is on `err`, cut to a prefix only where `err` failed.
+    ensures ends { Ends (command_of (map string_bytes words.now.items))
         (outside (F.held files.old) (F.taken files.old) (F.faults files.old) (O.written out.old) (O.faults out.old))
         result
-        (outside (F.held files.new) (F.taken files.new) (F.faults files.new) (O.written out.new) (O.faults out.new)) }
+        (outside (F.held files.new) (F.taken files.new) (F.faults files.new) (O.written out.new) (O.faults out.new))
+        (E.written err.old) (E.written err.new) (E.faults err.old) (E.faults err.new) }
 
     // Where all files are told and nothing failed, the status is the command's meaning, or memory was wanting.
     ensures complete { TellsAll (F.held files.old) (files_named (command_of (map string_bytes words.now.items)))
         → (Rose (F.faults files.old) (F.faults files.new) → ⊥) → (Rose (O.faults out.old) (O.faults out.new) → ⊥)
-        → (result ≡ Status.Memory) ⊎ (result ≡ (meaning (F.held files.old) (command_of (map string_bytes words.now.items))).status) }
-
-    // The line of the status is on `err`, cut to a prefix only where `err` failed.
-    ensures line { Says (line_of result) (E.written err.old) (E.written err.new) (E.faults err.old) (E.faults err.new) }
+        → (result ≡ Status.Memory) ⊎ (result ≡ status_of (meaning (F.held files.old) (command_of (map string_bytes words.now.items))).end) }
 {
-    let status = run::answer(alloc, words.as_slice(), files, out);
-    match write_all(err, status.line().as_bytes()) {
-        Ok(()) => status,
-        Err(_) => status,
-    }
+    let end = run::answer(alloc, words.as_slice(), files, out);
+    end.tell(err);
+    end.status()
 }
 
 #[cfg(test)]

@@ -1,79 +1,113 @@
 //! A command's run: its file is read, judged and answered.
 
-ghost use Rattle.std.specs.Prelude.{◌≡◌, ◌≤◌, ◌⊎◌, List, ℕ, map, string_bytes, Some, None, Option, IfOk, IfErr};
+ghost use Rattle.std.specs.Prelude.{◌≡◌, ◌≢◌, ◌≤◌, ◌⊎◌, List, ℕ, map, string_bytes, Some, None, Option, IfOk, IfErr};
 ghost use Rattle.surf_base.specs.Outside.{Rose, appended, GotPrefix};
-ghost use Rattle.surf_cli.specs.Commands.{command_of, Schedule};
-ghost use Rattle.surf_cli.specs.Schedule.{schedule_text};
-ghost use Rattle.surf_cli.specs.Meaning.{plan_in};
-ghost use Rattle.surf_cli.specs.Runs.{Runs, outside, WritesOut};
+ghost use Rattle.surf_base.specs.Block.{Writes, stream};
+ghost use Rattle.noc_desc.specs.Draft.{IsMemory};
+ghost use Rattle.surf_cli.specs.Commands.{command_of};
+ghost use Rattle.surf_cli.specs.Spoken.{command};
+ghost use Rattle.surf_cli.specs.Meaning.{judged, Described, answer_text};
+ghost use Rattle.surf_cli.specs.Runs.{Runs, outside, WritesOut, GotPlan, GotNone, IsFaulty};
 
-use crate::statuses::Status;
+use crate::accepted::put_accepted;
+use crate::statuses::End;
 use crate::table::put_schedule;
 use crate::words::{Request, request_of};
 use noc_desc::{DescFault, read_draft};
 use noc_model::Plan;
 use std::alloc::Global;
-use surf_base::{Block, Files, Sink, TakeFault, read_whole};
+use surf_base::{Block, Failed, Files, Sink, TakeFault, read_whole};
 
 /// The most bytes of a description.
 const DESCRIPTION_LIMIT: u64 = 1_048_576;
 
+/// How a run ends that meets a fault of a description.
+fn end_of(fault: DescFault) -> End
+    ensures { (result ≡ End.Memory) ⊎ ((IsMemory fault → ⊥) × (result ≡ End.Description fault)) }
+{
+    match fault {
+        DescFault::Memory(_) => End::Memory,
+        other => End::Description(other),
+    }
+}
+
 /// The plan of a description.
-fn plan_in(alloc: Global, bytes: &[u8]) -> Result<Plan, Status>
-    ensures ok { IfOk result (λ plan. plan_in bytes.now ≡ Some plan) }
-    ensures err { IfErr result (λ status. ((status ≡ Status.Description) × (plan_in bytes.now ≡ None)) ⊎ (status ≡ Status.Memory)) }
+fn judge(alloc: Global, bytes: &[u8]) -> Result<Plan, End>
+    ensures ok { IfOk result (λ plan. judged bytes.now ≡ Described plan) }
+    ensures err { IfErr result (λ end. (end ≡ End.Memory) ⊎ IsFaulty bytes.now end) }
 {
     let draft = match read_draft(alloc, bytes) {
         Ok(draft) => draft,
-        Err(DescFault::Refused) => return Err(Status::Description),
-        Err(DescFault::Memory(_)) => return Err(Status::Memory),
+        Err(fault) => return Err(end_of(fault)),
     };
     match desc_check::check(alloc, draft) {
         Ok(plan) => Ok(plan),
-        Err(DescFault::Refused) => Err(Status::Description),
-        Err(DescFault::Memory(_)) => Err(Status::Memory),
+        Err(fault) => Err(end_of(fault)),
     }
 }
 
-/// Writes the owner table. All memory is taken before the first write.
-fn write_schedule<O: Sink>(alloc: Global, plan: &Plan, cycles: u32, out: &mut O) -> Status
-    ensures { WritesOut result (O.written out.old) (O.written out.new) (O.faults out.old) (O.faults out.new) (schedule_text plan.now cycles) }
+/// The plan of a described network.
+fn read_plan<F: Files>(alloc: Global, description: &str, files: &mut F) -> Result<Plan, End>
+    ensures ok { IfOk result (λ plan. GotPlan description.now (F.held files.old) (F.held files.new) (F.faults files.old) (F.faults files.new) (F.taken files.new) plan) }
+    ensures err { IfErr result (λ end. GotNone description.now (F.held files.old) (F.held files.new) (F.faults files.old) (F.faults files.new) (F.taken files.new) end) }
+{
+    let bytes = match read_whole(alloc, files, description, DESCRIPTION_LIMIT) {
+        Ok(bytes) => bytes,
+        Err(TakeFault::Failed) => return Err(End::Read),
+        Err(TakeFault::TooLong) => return Err(End::TooLong),
+        Err(TakeFault::Memory(_)) => return Err(End::Memory),
+    };
+    judge(alloc, &bytes)
+}
+
+/// Puts the answer to a request over a plan.
+fn put_answer<O: Sink>(
+    block: &mut Block,
+    out: &mut O,
+    plan: &Plan,
+    request: Request<'_>,
+) -> Result<(), Failed>
+    ensures { Writes result (stream (O.written out.old) block.old (O.faults out.old))
+        (stream (O.written out.new) block.new (O.faults out.new)) (answer_text (command request.entry) plan.now) }
+{
+    match request {
+        Request::Schedule { cycles, .. } => put_schedule(block, out, plan, cycles),
+        Request::Check { .. } => put_accepted(block, out, plan),
+    }
+}
+
+/// Writes the answer to a request over a plan. All memory is taken before the first write.
+fn write_answer<O: Sink>(alloc: Global, plan: &Plan, request: Request<'_>, out: &mut O) -> End
+    ensures { WritesOut result (O.written out.old) (O.written out.new) (O.faults out.old) (O.faults out.new) (answer_text (command request.entry) plan.now) }
 {
     let mut block = match Block::new(alloc) {
         Ok(block) => block,
-        Err(_) => return Status::Memory,
+        Err(_) => return End::Memory,
     };
-    match put_schedule(&mut block, out, plan, cycles) {
+    match put_answer(&mut block, out, plan, request) {
         Ok(()) => match block.flush(out) {
-            Ok(()) => Status::Good,
-            Err(_) => Status::Write,
+            Ok(()) => End::Good,
+            Err(_) => End::Write,
         },
-        Err(_) => Status::Write,
+        Err(_) => End::Write,
     }
 }
 
-/// The owner table of a described network.
-fn schedule<F: Files, O: Sink>(
+/// A request, done.
+fn answer_request<F: Files, O: Sink>(
     alloc: Global,
-    description: &str,
-    cycles: u32,
+    request: Request<'_>,
     files: &mut F,
     out: &mut O,
-) -> Status
-    ensures { Runs (Some (Schedule description.now cycles))
+) -> End
+    ensures { Runs (Some (command request.entry))
         (outside (F.held files.old) (F.taken files.old) (F.faults files.old) (O.written out.old) (O.faults out.old))
         result
         (outside (F.held files.new) (F.taken files.new) (F.faults files.new) (O.written out.new) (O.faults out.new)) }
 {
-    let bytes = match read_whole(alloc, files, description, DESCRIPTION_LIMIT) {
-        Ok(bytes) => bytes,
-        Err(TakeFault::Failed) => return Status::Read,
-        Err(TakeFault::TooLong) => return Status::TooLong,
-        Err(TakeFault::Memory(_)) => return Status::Memory,
-    };
-    match plan_in(alloc, &bytes) {
-        Ok(plan) => write_schedule(alloc, &plan, cycles, out),
-        Err(status) => status,
+    match read_plan(alloc, request.description(), files) {
+        Ok(plan) => write_answer(alloc, &plan, request, out),
+        Err(end) => end,
     }
 }
 
@@ -83,20 +117,15 @@ pub(crate) fn answer<F: Files, O: Sink>(
     words: &[String],
     files: &mut F,
     out: &mut O,
-) -> Status
-    ensures idle { result ≡ Status.Usage → (files.new ≡ files.old) × (out.new ≡ out.old) }
+) -> End
+    ensures idle { result ≡ End.Usage → (files.new ≡ files.old) × (out.new ≡ out.old) }
     ensures runs { Runs (command_of (map string_bytes words.now))
         (outside (F.held files.old) (F.taken files.old) (F.faults files.old) (O.written out.old) (O.faults out.old))
         result
         (outside (F.held files.new) (F.taken files.new) (F.faults files.new) (O.written out.new) (O.faults out.new)) }
 {
     match request_of(words) {
-        Some(
-            Request::Schedule {
-                description,
-                cycles,
-            },
-        ) => schedule(alloc, description, cycles, files, out),
-        None => Status::Usage,
+        Some(request) => answer_request(alloc, request, files, out),
+        None => End::Usage,
     }
 }

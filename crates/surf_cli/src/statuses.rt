@@ -1,7 +1,11 @@
 //! How a run ends.
 
 ghost use Rattle.std.specs.Prelude.{◌≡◌};
-ghost use Rattle.surf_cli.specs.Lines.{number_of, line_of};
+ghost use Rattle.surf_cli.specs.Lines.{number_of, status_of, line_of, Says};
+
+use desc_check::fault_line;
+use noc_desc::DescFault;
+use surf_base::{Sink, write_all};
 
 /// How a run of the program ends.
 #[derive(Clone, Copy, Debug, PartialEq, Eq)]
@@ -10,7 +14,7 @@ pub enum Status {
     Good,
     /// The words are no command.
     Usage,
-    /// The description is not accepted.
+    /// The description has a fault.
     Description,
     /// A file could not be read.
     Read,
@@ -37,19 +41,77 @@ impl Status {
             Status::TooLong => 9,
         }
     }
+}
 
-    /// The line for the error stream, with its LF; nothing where all is good.
-    pub(crate) fn line(&self) -> &'static str
-        ensures { result.now ≡ line_of self.now }
+/// How a run ends, with the fault that its line tells.
+#[derive(Drop)]
+pub(crate) enum End {
+    /// All bytes were written.
+    Good,
+    /// The words are no command.
+    Usage,
+    /// The description's first fault.
+    Description(DescFault),
+    /// A file could not be read.
+    Read,
+    /// The output could not be written.
+    Write,
+    /// Memory was wanting.
+    Memory,
+    /// A file is longer than its limit.
+    TooLong,
+}
+
+impl End {
+    /// The status of the run.
+    pub(crate) fn status(&self) -> Status
+        ensures { result ≡ status_of self.now }
     {
         match self {
-            Status::Good => "",
-            Status::Usage => "surf: usage\n",
-            Status::Description => "surf: description refused\n",
-            Status::Read => "surf: read failed\n",
-            Status::Write => "surf: write failed\n",
-            Status::Memory => "surf: no memory\n",
-            Status::TooLong => "surf: file too long\n",
+            End::Good => Status::Good,
+            End::Usage => Status::Usage,
+            End::Description(_) => Status::Description,
+            End::Read => Status::Read,
+            End::Write => Status::Write,
+            End::Memory => Status::Memory,
+            End::TooLong => Status::TooLong,
         }
+    }
+
+    /// Writes the line for the error stream; nothing where all is good.
+    pub(crate) fn tell<E: Sink>(&self, err: &mut E)
+        ensures { Says (line_of self.now) (E.written err.old) (E.written err.new) (E.faults err.old) (E.faults err.new) }
+    {
+        match self {
+            End::Good => {}
+            End::Usage => say(err, "surf: usage\n"),
+            End::Description(fault) => tell_fault(fault, err),
+            End::Read => say(err, "surf: read failed\n"),
+            End::Write => say(err, "surf: write failed\n"),
+            End::Memory => say(err, "surf: no memory\n"),
+            End::TooLong => say(err, "surf: file too long\n"),
+        }
+    }
+}
+
+/// Writes a line to the error stream.
+fn say<E: Sink>(err: &mut E, line: &str)
+    ensures { Says line.now (E.written err.old) (E.written err.new) (E.faults err.old) (E.faults err.new) }
+{
+    match write_all(err, line.as_bytes()) {
+        Ok(()) => {}
+        Err(_) => {}
+    }
+}
+
+/// Writes the line of a description's fault to the error stream.
+fn tell_fault<E: Sink>(fault: &DescFault, err: &mut E)
+    ensures { Says (line_of (End.Description fault.now)) (E.written err.old) (E.written err.new) (E.faults err.old) (E.faults err.new) }
+{
+    let mut line = [0; 96];
+    let len = fault_line(fault, &mut line);
+    match write_all(err, &line[..len]) {
+        Ok(()) => {}
+        Err(_) => {}
     }
 }

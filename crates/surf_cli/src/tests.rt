@@ -7,10 +7,22 @@ use surf_base::{MemFiles, MemSink};
 const TWO_TILES: &str = "version = 1\nshape = \"mesh\"\ndims = [2]\nstages = 2\nbuffer = 2\n\
 domain = [{name = \"a\", channels = 1}, {name = \"b\", channels = 1}]\n";
 
-const WITH_HOSTS: &str = "version = 1\nshape = \"mesh\"\ndims = [2]\nstages = 1\nbuffer = 2\n\
+const OVERLAPPING: &str = "version = 1\nshape = \"mesh\"\ndims = [2]\nstages = 1\nbuffer = 2\n\
 domain = [{name = \"a\", channels = 1}, {name = \"b\", channels = 1}]\n\
 tile = [{at = 0, domains = [\"a\", \"b\"]}, {at = 1, domains = [\"a\", \"b\"]}]\n\
-range = [{tile = 0, first = 0x0, last = 0xff}, {tile = 1, first = 0x100, last = 0x1ff}]\n";
+range = [{tile = 0, first = 0x0, last = 0xff}, {tile = 1, first = 0xff, last = 0x1ff}]\n";
+
+const WEIGHTED: &str = "version = 2\nshape = \"mesh\"\ndims = [2]\nstages = 1\nbuffer = 2\n\
+domain = [{name = \"a\", channels = 1}, {name = \"b\", channels = 1}]\n\
+slots = [\"a\", \"a\", \"b\"]\n";
+
+const ONE_TILE: &str = "version = 1\nshape = \"mesh\"\ndims = [1]\nstages = 1\nbuffer = 2\n\
+domain = [{name = \"a\", channels = 1}]\n\
+tile = [{at = 0, domains = [\"a\"]}]\n\
+range = [{tile = 0, first = 0x10, last = 0x1f}]\n";
+
+const CUBE: &str = "version = 2\nshape = \"mesh\"\ndims = [2, 2, 2]\nstages = 1\nbuffer = 2\n\
+domain = [{name = \"a\", channels = 1}]\nslots = [\"a\"]\n";
 
 /// Runs the words over one file `d`, and answers the status and what is on the output and the error stream.
 fn run(
@@ -38,7 +50,7 @@ fn run(
 }
 
 #[test]
-fn two_domains_share_a_link_by_time(rt: HostRuntime) -> Result<(), Fail> {
+fn each_command_gives_its_status_and_bytes(rt: HostRuntime) -> Result<(), Fail> {
     let table = "0 0 1 a\n0 1 2 b\n1 0 1 b\n1 1 2 a\n";
     let rows = [
         ("schedule d 2", Some(TWO_TILES), Status::Good, table, ""),
@@ -51,18 +63,54 @@ fn two_domains_share_a_link_by_time(rt: HostRuntime) -> Result<(), Fail> {
             "surf: usage\n",
         ),
         (
+            "schedule d 3",
+            Some(WEIGHTED),
+            Status::Good,
+            "0 0 1 a\n0 1 2 a\n1 0 1 a\n1 1 2 b\n2 0 1 b\n2 1 2 a\n",
+            "",
+        ),
+        (
             "schedule d 2",
-            Some(WITH_HOSTS),
+            Some(OVERLAPPING),
             Status::Description,
             "",
-            "surf: description refused\n",
+            "surf: description fault 20 0 1\n",
         ),
         (
             "schedule d 2",
             Some(""),
             Status::Description,
             "",
-            "surf: description refused\n",
+            "surf: description fault 3 0 0 0\n",
+        ),
+        (
+            "check d",
+            Some(ONE_TILE),
+            Status::Good,
+            "accepted tiles 1 domains 1 places 6 hop 4\n",
+            "",
+        ),
+        (
+            "check d",
+            Some(CUBE),
+            Status::Good,
+            "accepted tiles 8 domains 1 places 112 hop 4\n",
+            "",
+        ),
+        (
+            "check d",
+            Some("colour = 1\n"),
+            Status::Description,
+            "",
+            "surf: description fault 2 0 0 0\n",
+        ),
+        ("check d", None, Status::Read, "", "surf: read failed\n"),
+        (
+            "check d 1",
+            Some(ONE_TILE),
+            Status::Usage,
+            "",
+            "surf: usage\n",
         ),
         (
             "schedule d 2",

@@ -1,47 +1,30 @@
-use Rattle.std.proofs.Common.{◌≡◌, ◌≤◌, true, false, sym, subst, arith, ap, ◌∙◌, ◌&&◌}
-use Rattle.noc_model.specs.Plan.{Plan, places}
+use Rattle.std.proofs.Common.{◌≡◌, sym, subst, ◌∙◌, None}
+use Rattle.noc_model.specs.Plan.{Plan}
 use Rattle.noc_model.specs.Sound.{IsSound}
-use Rattle.noc_model.specs.PlanOf.{plan_of}
-use Rattle.desc_check.specs.Accepted.{is_accepted, is_formed, plan_of_draft}
-use Rattle.desc_check.proofs.Sound.{IsSized, sized, sound, accepted-few, accepted-many}
+use Rattle.desc_check.specs.Network.{plan_of_draft}
+use Rattle.desc_check.specs.Accepted.{lists_fault, plan_fault, slots_fault, IsSized}
+use Rattle.desc_check.proofs.Judged.{form_none, domains_none, ranges_none, none_of_all}
+use Rattle.desc_check.proofs.Sound.{sized, sound}
 use Rattle.desc_check.proofs.check.Goals as goal
 
-pub places-requires-clause-sides : goal.places-requires-clause-sides
-places-requires-clause-sides c =
-    let formed : is_formed c.args.draft ≡ true = sym c.is_formed.ensures ∙ c.if-not-is_formed.false in
-    (subst IsSized (sym c.in-Ok.ensures) (sized c.args.draft formed)).sides
+pub parts_of-requires-clause-form : goal.parts_of-requires-clause-form
+parts_of-requires-clause-form c = form_none c.args.draft (sym c.lists_fault.ensures ∙ c.in_default.is)
 
-pub places-requires-clause-tiles : goal.places-requires-clause-tiles
-places-requires-clause-tiles c =
-    let formed : is_formed c.args.draft ≡ true = sym c.is_formed.ensures ∙ c.if-not-is_formed.false in
-    (subst IsSized (sym c.in-Ok.ensures) (sized c.args.draft formed)).tile_count
+pub parts_of-requires-clause-domains : goal.parts_of-requires-clause-domains
+parts_of-requires-clause-domains c = domains_none c.args.draft (sym c.lists_fault.ensures ∙ c.in_default.is)
 
-pub places-requires-clause-domains : goal.places-requires-clause-domains
-places-requires-clause-domains c =
-    let formed : is_formed c.args.draft ≡ true = sym c.is_formed.ensures ∙ c.if-not-is_formed.false in
-    (subst IsSized (sym c.in-Ok.ensures) (sized c.args.draft formed)).domains
+pub parts_of-requires-clause-ranges : goal.parts_of-requires-clause-ranges
+parts_of-requires-clause-ranges c = ranges_none c.args.draft (sym c.lists_fault.ensures ∙ c.in_default.is)
 
-pub places-requires-clause-channels : goal.places-requires-clause-channels
-places-requires-clause-channels c =
-    let formed : is_formed c.args.draft ≡ true = sym c.is_formed.ensures ∙ c.if-not-is_formed.false in
-    (subst IsSized (sym c.in-Ok.ensures) (sized c.args.draft formed)).channels
+pub plan_fault-requires : goal.plan_fault-requires
+plan_fault-requires c =
+    let none : lists_fault c.args.draft ≡ None = sym c.lists_fault.ensures ∙ c.in_default.is in
+    subst IsSized (sym c.in-Ok.ensures) (sized c.args.draft (form_none c.args.draft none) (domains_none c.args.draft none))
 
 pub new-requires : goal.new-requires
 new-requires c =
-    let formed : is_formed c.args.draft ≡ true = sym c.is_formed.ensures ∙ c.if-not-is_formed.false in
-    let count : places (plan_of c.in-Ok.parts) ≤ 24576 = omega arith in
-    subst IsSound (sym c.in-Ok.ensures) (sound c.args.draft formed (subst (λ (p : Plan). places p ≤ 24576) c.in-Ok.ensures count))
-
-pub returns-then-places-le24576-clause-ok : goal.returns-then-places-le24576-clause-ok
-returns-then-places-le24576-clause-ok c =
-    let formed : is_formed c.args.draft ≡ true = sym c.is_formed.ensures ∙ c.if-not-is_formed.false in
-    let count : places (plan_of c.in-Ok.parts) ≤ 24576 = omega arith in
-    let at : places (plan_of_draft c.args.draft) ≤ 24576 = subst (λ (p : Plan). places p ≤ 24576) c.in-Ok.ensures count in
-    (accepted-few c.args.draft formed at, c.new.ensures ∙ c.in-Ok.ensures)
-
-pub returns-clause-refused : goal.returns-clause-refused
-returns-clause-refused c = λ e.
-    let formed : is_formed c.args.draft ≡ true = sym c.is_formed.ensures ∙ c.if-not-is_formed.false in
-    accepted-many c.args.draft formed (λ less.
-    let count : places (plan_of c.in-Ok.parts) ≤ 24576 = subst (λ (p : Plan). places p ≤ 24576) (sym c.in-Ok.ensures) less in
-    omega arith)
+    let none : lists_fault c.args.draft ≡ None = sym c.lists_fault.ensures ∙ c.in_default.is in
+    let few = sym c.plan_fault.ensures ∙ c.in_default-plan_fault.is in
+    let sizes : plan_fault (plan_of_draft c.args.draft) ≡ None = subst (λ (p : Plan). plan_fault p ≡ None) c.in-Ok.ensures few in
+    let slots : slots_fault c.args.draft ≡ None = sym c.slots_fault.ensures ∙ c.in_default-slots_fault.is in
+    subst IsSound (sym c.in-Ok.ensures) (sound c.args.draft (none_of_all c.args.draft none sizes slots))

@@ -1,5 +1,5 @@
 use Rattle.std.proofs.Common.{◌≡◌, map, take}
-use Rattle.desc_check.specs.Accepted.{domain_of}
+use Rattle.desc_check.specs.Network.{domain_of}
 use Rattle.desc_check.proofs.make.domains_of.Given as goal
 
 abbrev pub invariant-loop-domain : goal.invariant-loop-domain

@@ -1,5 +1,10 @@
+use Rattle.std.proofs.Common.{ℕ, List, ap, ◌∙◌}
+use Rattle.toml.specs.Data.{get_member}
+use Rattle.toml.specs.View.{members_view}
 use Rattle.toml.proofs.Views.{table_get}
 use Rattle.noc_desc.proofs.keys.value_at.Goals as goal
 
 pub returns : goal.returns
-returns c = table_get c.get.result c.args.key.now c.args.table.now.entries c.get.ensures.value
+returns c =
+    table_get c.get.result c.name.result.now c.args.table.now.entries c.get.ensures.value
+    ∙ ap (λ (written : List ℕ). get_member written (members_view c.args.table.now.entries)) c.name.ensures

@@ -5,4 +5,4 @@ use Rattle.noc_desc.proofs.values.numbers.Given as goal
 
 -- those found and those among the elements that are left are all
 abbrev pub invariant-loop-item : goal.invariant-loop-item
-invariant-loop-item l = l.found ++ numbers (items_view (drop l.item-index l.item-items)) ≡ numbers (items_view l.item-items)
+invariant-loop-item l = l.found ++ numbers (items_view (drop l.item-index l.items)) ≡ numbers (items_view l.items)

@@ -1,4 +1,4 @@
-use Rattle.std.proofs.Common.{◌≡◌, List, ℕ, ◌∷◌, [], ◌++◌, take, ap, ◌∙◌, subst}
+use Rattle.std.proofs.Common.{◌≡◌, ◌∷◌, [], take, ap, ◌∙◌, subst}
 use Rattle.std.specs.Prelude.{decimal}
 use Rattle.surf_base.specs.Block.{Puts, BreaksOff}
 use Rattle.surf_base.proofs.Blocks.{Writes-then, BreaksOff-more}

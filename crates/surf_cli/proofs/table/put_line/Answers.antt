@@ -1,7 +1,5 @@
-use Rattle.std.proofs.Common.{List, ℕ, ◌∷◌, [], ◌++◌}
 use Rattle.surf_base.proofs.Blocks.{Writes-then, BreaksOff-more}
 use Rattle.surf_cli.specs.Schedule.{field, link_text}
-use Rattle.std.specs.Prelude.{decimal}
 use Rattle.surf_cli.proofs.table.put_line.Goals as goal
 
 pub returns-in-Ok : goal.returns-in-Ok

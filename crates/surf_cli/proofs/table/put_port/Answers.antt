@@ -1,10 +1,7 @@
-use Rattle.std.proofs.Common.{◌≡◌, Some, None, sym, ap, ◌∙◌, subst, is_some, true, false, List, ℕ, [], ◌++◌}
-use Rattle.noc_model.specs.Place.{neighbour, owner}
+use Rattle.std.proofs.Common.{sym, ap, ◌∙◌, subst}
 use Rattle.noc_model.specs.Plan.{name_of}
-use Rattle.surf_base.specs.Block.{Writes, Puts, stream}
+use Rattle.surf_base.specs.Block.{Puts}
 use Rattle.surf_base.proofs.Blocks.{Puts-nothing}
-use Rattle.std.specs.Prelude.{pos}
-use Rattle.surf_cli.specs.Schedule.{port_text, owner_line, field, link_text}
 use Rattle.surf_cli.proofs.Texts.{Writes-port, port_text-none}
 use Rattle.surf_cli.proofs.table.put_port.Goals as goal
 

@@ -1,6 +1,6 @@
-use Rattle.std.proofs.Common.{◌≡◌, ◌<◌, arith}
-use Rattle.noc_model.specs.Plan.{tiles, ports}
-use Rattle.surf_cli.specs.Schedule.{texts_below, port_text, tile_text, cycle_text, schedule_text}
+use Rattle.std.proofs.Common.{arith}
+use Rattle.noc_model.specs.Plan.{ports}
+use Rattle.surf_cli.specs.Schedule.{port_text, tile_text}
 use Rattle.surf_cli.proofs.Texts.{Puts-next, Puts-loop, BreaksOff-loop}
 use Rattle.surf_cli.proofs.table.put_tile.Goals as goal
 

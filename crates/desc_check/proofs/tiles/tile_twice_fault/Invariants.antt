@@ -1,0 +1,8 @@
+use Rattle.std.proofs.Common.{◌≡◌, drop}
+use Rattle.desc_check.specs.Words.{first_at}
+use Rattle.desc_check.specs.Faults.{same_tile_fault}
+use Rattle.desc_check.proofs.tiles.tile_twice_fault.Given as goal
+
+-- the elements that are left decide
+abbrev pub invariant-loop-i : goal.invariant-loop-i
+invariant-loop-i l = first_at (same_tile_fault l.elements) l.i (drop l.i l.elements) ≡ first_at (same_tile_fault l.elements) 0 l.elements
