@@ -55,6 +55,5 @@ pub fn surf<F: Files, O: Sink, E: Sink>(
 
 #[cfg(test)]
 mod tests;
-
 #[cfg(test)]
-mod texts;
+mod text_tests;

@@ -79,7 +79,10 @@ fn a_copy_is_written_as_what_it_copies_and_read_back(rt: HostRuntime) -> Result<
         }
         Err(_) => Vec::new(alloc),
     };
-    assert!(rt; text.as_slice().starts_with(b"module router_0 (\n  input wire clk,\n"));
+    assert!(rt;
+        text.as_slice()
+            .starts_with(b"module router_0 (\n  input wire clk,\n")
+    );
     assert_eq!(rt; again(alloc, &text)?.as_slice(), text.as_slice());
     let wide = doubled(alloc, DROPS_EVERY_WORD)?;
     assert_eq!(rt; again(alloc, &wide)?.as_slice(), text.as_slice());
