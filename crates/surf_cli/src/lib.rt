@@ -58,3 +58,5 @@ pub fn surf<F: Files, O: Sink, E: Sink>(
 mod wheel_rows;
 #[cfg(test)]
 mod tests;
+#[cfg(test)]
+mod text_tests;
