@@ -11,7 +11,7 @@ use std::alloc::{AllocError, Global};
 use std::test::Fail;
 use surf_base::Bytes;
 use tile_drive::{Drive, Seen, TraceDrive};
-use trace_read::{TraceFault, read_trace};
+use trace_read::read_trace;
 
 fn one_tile(alloc: Global, buffer: u32) -> Result<Parts, AllocError>
     requires less { 1 ≤ buffer }
@@ -86,6 +86,7 @@ fn run_tile<D: Drive>(
 fn a_word_stays_four_cycles(rt: HostRuntime) {
     let alloc = rt.alloc();
     let plan = Plan::new(one_tile(alloc, 2).expect(&rt, "memory"));
+    assert_eq!(&rt; plan.attach_count(), 1);
     let trace = read_trace(alloc, &plan, b"0 0 a send 00000010 0000002a\n").expect(&rt, "memory");
     let mut drive = TraceDrive::new(alloc, &plan, &trace).expect(&rt, "memory");
     let mut seen = Seen::new(alloc, &plan).expect(&rt, "memory");

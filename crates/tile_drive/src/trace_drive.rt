@@ -24,8 +24,6 @@ pub struct TraceDrive {
 }
 
 impl TraceDrive {
-    ghost use Rattle.tile_drive.specs.Lanes.{lanes_driver};
-
     /// The driver of the trace at the plan's attachments, none of whose words was taken.
     pub fn new(alloc: Global, plan: &Plan, trace: &Trace) -> Result<TraceDrive, AllocError>
         ensures count { IfOk result (λ drive. ⟦<TraceDrive as Driving>⟧.count drive ≡ length plan.now.hosts) }
