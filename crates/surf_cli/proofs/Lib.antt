@@ -1,4 +1,5 @@
 pub mod Texts
+pub mod Wheeled
 pub mod Judged
 pub mod Ended
 pub mod Runnings

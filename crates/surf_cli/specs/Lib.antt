@@ -2,6 +2,7 @@ pub mod Commands
 pub mod Spoken
 pub mod Lines
 pub mod Schedule
+pub mod Turning
 pub mod Accepted
 pub mod Routes
 pub mod Meaning

@@ -17,6 +17,7 @@ mod routes;
 mod run;
 mod statuses;
 mod table;
+mod turning;
 mod words;
 
 pub use statuses::Status;
@@ -55,8 +56,8 @@ pub fn surf<F: Files, O: Sink, E: Sink>(
 }
 
 #[cfg(test)]
-mod wheel_rows;
-#[cfg(test)]
 mod tests;
 #[cfg(test)]
 mod text_tests;
+#[cfg(test)]
+mod wheel_rows;

@@ -7,17 +7,20 @@ ghost use Rattle.noc_desc.specs.Draft.{IsMemory};
 ghost use Rattle.surf_cli.specs.Commands.{command_of};
 ghost use Rattle.surf_cli.specs.Spoken.{command};
 ghost use Rattle.surf_cli.specs.Meaning.{judged, Described, answer_text};
+ghost use Rattle.surf_cli.specs.Turning.{WheelsFor};
 ghost use Rattle.surf_cli.specs.Runs.{Runs, outside, WritesOut, GotPlan, GotNone, IsFaulty};
 
 use crate::accepted::put_accepted;
 use crate::routes::put_routes;
 use crate::statuses::End;
 use crate::table::put_schedule;
+use crate::turning::wheels_of;
 use crate::words::{Request, request_of};
 use noc_desc::{DescFault, read_draft};
 use noc_model::Plan;
-use std::alloc::Global;
+use std::alloc::{AllocError, Global};
 use surf_base::{Block, Failed, Files, Sink, TakeFault, read_whole};
+use wave_sched::Wheel;
 
 /// The most bytes of a description.
 const DESCRIPTION_LIMIT: u64 = 1_048_576;
@@ -61,18 +64,30 @@ fn read_plan<F: Files>(alloc: Global, description: &str, files: &mut F) -> Resul
     judge(alloc, &bytes)
 }
 
+/// The wheels that the answer to a request needs.
+fn wheels_for(alloc: Global, plan: &Plan, request: Request<'_>) -> Result<Vec<Wheel>, AllocError>
+    ensures { IfOk result (λ v. WheelsFor (command request.entry) v.items plan.now) }
+{
+    match request {
+        Request::Schedule { .. } => wheels_of(alloc, plan),
+        Request::Check { .. } | Request::Routes { .. } => Ok(Vec::new(alloc)),
+    }
+}
+
 /// Puts the answer to a request over a plan.
 fn put_answer<O: Sink>(
     block: &mut Block,
     out: &mut O,
     plan: &Plan,
+    wheels: &mut [Wheel],
     request: Request<'_>,
 ) -> Result<(), Failed>
+    requires { WheelsFor (command request) wheels.old plan.now }
     ensures { Writes result (stream (O.written out.old) block.old (O.faults out.old))
         (stream (O.written out.new) block.new (O.faults out.new)) (answer_text (command request.entry) plan.now) }
 {
     match request {
-        Request::Schedule { cycles, .. } => put_schedule(block, out, plan, cycles),
+        Request::Schedule { cycles, .. } => put_schedule(block, out, plan, wheels, cycles),
         Request::Check { .. } => put_accepted(block, out, plan),
         Request::Routes { .. } => put_routes(block, out, plan),
     }
@@ -86,7 +101,11 @@ fn write_answer<O: Sink>(alloc: Global, plan: &Plan, request: Request<'_>, out: 
         Ok(block) => block,
         Err(_) => return End::Memory,
     };
-    match put_answer(&mut block, out, plan, request) {
+    let mut wheels = match wheels_for(alloc, plan, request) {
+        Ok(wheels) => wheels,
+        Err(_) => return End::Memory,
+    };
+    match put_answer(&mut block, out, plan, wheels.as_mut_slice(), request) {
         Ok(()) => match block.flush(out) {
             Ok(()) => End::Good,
             Err(_) => End::Write,

@@ -4,11 +4,14 @@ ghost use Rattle.std.specs.Prelude.{◌≡◌, ◌<◌, ◌++◌, ◌∷◌, [],
 ghost use Rattle.surf_base.specs.Block.{Writes, stream};
 ghost use Rattle.noc_model.specs.Plan.{tiles, ports, name_of};
 ghost use Rattle.noc_model.specs.Place.{neighbour, owner};
+ghost use Rattle.wave_sched.specs.Wheels.{Stands};
+ghost use Rattle.surf_cli.specs.Turning.{AllStand};
 ghost use Rattle.surf_cli.specs.Schedule.{field, owner_line, link_text, port_text, tile_text, cycle_text, schedule_text};
 
+use crate::turning::tick_all;
 use noc_model::Plan;
 use surf_base::{Block, Failed, Sink, decimal};
-use wave_sched::owner;
+use wave_sched::Wheel;
 
 /// Puts a number in decimal, and a blank.
 pub(crate) fn put_field<O: Sink>(block: &mut Block, out: &mut O, value: u32) -> Result<(), Failed>
@@ -85,18 +88,20 @@ fn put_port<O: Sink>(
     block: &mut Block,
     out: &mut O,
     plan: &Plan,
+    wheel: &Wheel,
     cycle: u32,
     tile: u32,
     port: u32,
 ) -> Result<(), Failed>
     requires tile { tile < tiles plan.now }
     requires port { port < ports plan.now }
+    requires wheel { Stands wheel.now plan.now tile cycle }
     ensures { Writes result (stream (O.written out.old) block.old (O.faults out.old))
         (stream (O.written out.new) block.new (O.faults out.new)) (port_text plan.now cycle tile port) }
 {
     match plan.neighbour(tile, port) {
         Some(_) => {
-            let domain = owner(plan, tile, port, cycle);
+            let domain = wheel.leaving(port);
             put_line(block, out, cycle, tile, port, plan.name(domain))
         }
         None => Ok(()),
@@ -108,16 +113,18 @@ fn put_tile<O: Sink>(
     block: &mut Block,
     out: &mut O,
     plan: &Plan,
+    wheel: &Wheel,
     cycle: u32,
     tile: u32,
 ) -> Result<(), Failed>
-    requires { tile < tiles plan.now }
+    requires tile { tile < tiles plan.now }
+    requires wheel { Stands wheel.now plan.now tile cycle }
     ensures { Writes result (stream (O.written out.old) block.old (O.faults out.old))
         (stream (O.written out.new) block.new (O.faults out.new)) (tile_text plan.now cycle tile) }
 {
     plan.known();
     for port in 0..1 + 2 * plan.dims() {
-        match put_port(block, out, plan, cycle, tile, port) {
+        match put_port(block, out, plan, wheel, cycle, tile, port) {
             Ok(()) => {}
             Err(fault) => return Err(fault),
         }
@@ -126,12 +133,19 @@ fn put_tile<O: Sink>(
 }
 
 /// Puts the lines of a cycle.
-fn put_cycle<O: Sink>(block: &mut Block, out: &mut O, plan: &Plan, cycle: u32) -> Result<(), Failed>
+fn put_cycle<O: Sink>(
+    block: &mut Block,
+    out: &mut O,
+    plan: &Plan,
+    wheels: &[Wheel],
+    cycle: u32,
+) -> Result<(), Failed>
+    requires { AllStand wheels.now plan.now cycle }
     ensures { Writes result (stream (O.written out.old) block.old (O.faults out.old))
         (stream (O.written out.new) block.new (O.faults out.new)) (cycle_text plan.now cycle) }
 {
     for tile in 0..plan.tiles() {
-        match put_tile(block, out, plan, cycle, tile) {
+        match put_tile(block, out, plan, &wheels[tile as usize], cycle, tile) {
             Ok(()) => {}
             Err(fault) => return Err(fault),
         }
@@ -139,19 +153,21 @@ fn put_cycle<O: Sink>(block: &mut Block, out: &mut O, plan: &Plan, cycle: u32) -
     Ok(())
 }
 
-/// Puts the owner table of the cycles from 0 on.
+/// Puts the owner table of the cycles from 0 on, in which the wheels stand.
 pub(crate) fn put_schedule<O: Sink>(
     block: &mut Block,
     out: &mut O,
     plan: &Plan,
+    wheels: &mut [Wheel],
     cycles: u32,
 ) -> Result<(), Failed>
+    requires { AllStand wheels.old plan.now 0 }
     ensures { Writes result (stream (O.written out.old) block.old (O.faults out.old))
         (stream (O.written out.new) block.new (O.faults out.new)) (schedule_text plan.now cycles) }
 {
     for cycle in 0..cycles {
-        match put_cycle(block, out, plan, cycle) {
-            Ok(()) => {}
+        match put_cycle(block, out, plan, wheels, cycle) {
+            Ok(()) => tick_all(wheels),
             Err(fault) => return Err(fault),
         }
     }
