@@ -9,6 +9,8 @@ ghost use Rattle.std.specs.Prelude.{◌≡◌, ◌≢◌, ◌<◌, ◌≤◌, �
 ghost use Rattle.noc_model.specs.Plan.{tiles, ports, classes};
 ghost use Rattle.noc_model.specs.Place.{neighbour, route, class_after, rank, goes_plus, Plus, Minus, way_of, port_of, is_wrap, is_same_dim, are_edges, next_in, last_in, position};
 
+pub mod laws;
+
 use noc_model::Plan;
 
 /// The port by which a flit for tile `dest` leaves tile `at`, the local port, 0, where it is there (dimension-order routing:

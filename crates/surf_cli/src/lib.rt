@@ -58,4 +58,6 @@ pub fn surf<F: Files, O: Sink, E: Sink>(
 #[cfg(test)]
 mod tests;
 #[cfg(test)]
+mod text_tests;
+#[cfg(test)]
 mod wheel_rows;

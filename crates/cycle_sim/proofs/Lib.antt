@@ -1,0 +1,4 @@
+pub mod OneStep
+pub mod Parts
+pub mod Hosts
+pub mod Alone

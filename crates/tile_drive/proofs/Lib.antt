@@ -1,0 +1,5 @@
+mod InOrder
+pub mod LaneLemmas
+pub mod Restricted
+mod Rows
+pub mod SpanLemmas

@@ -1,0 +1,6 @@
+pub mod TextLemmas
+pub mod HexLemmas
+pub mod Named
+pub mod FaultLemmas
+pub mod TraceLemmas
+mod Rows

@@ -1,0 +1,7 @@
+pub mod Text
+pub mod Hex
+pub mod Entries
+pub mod Faults
+pub mod Accepted
+pub mod Heads
+pub mod Restrict

@@ -1,0 +1,10 @@
+pub mod Scans
+pub mod Numbers
+pub mod Pieces
+pub mod Steps
+pub mod Singles
+pub mod Lists
+pub mod Levels
+pub mod Ends
+pub mod Takes
+pub mod Faulted

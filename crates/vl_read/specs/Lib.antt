@@ -1,0 +1,6 @@
+pub mod View
+pub mod Gives
+pub mod Picks
+pub mod Lists
+pub mod Parts
+pub mod Faults

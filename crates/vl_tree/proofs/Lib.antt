@@ -1,0 +1,11 @@
+pub mod Forms
+pub mod Single
+pub mod Exprs
+pub mod Modules
+pub mod Lexed
+pub mod Designs
+pub mod Says
+pub mod Written
+pub mod Plainly
+pub mod Fronts
+pub mod Rows
