@@ -55,8 +55,8 @@ pub fn surf<F: Files, O: Sink, E: Sink>(
 }
 
 #[cfg(test)]
-mod wheel_rows;
-#[cfg(test)]
 mod tests;
 #[cfg(test)]
 mod text_tests;
+#[cfg(test)]
+mod wheel_rows;

@@ -21,15 +21,7 @@ fn row_of_five(alloc: Global) -> Result<Plan, DescFault> {
 
 /// At a port with a link the wheel has the owner of the link that leaves, and, once a flit can be there, of the one that
 /// arrives from tile `from` by its port `back`.
-fn agree(
-    rt: &impl Abort,
-    plan: &Plan,
-    wheel: &Wheel,
-    tile: u32,
-    port: u32,
-    back: u32,
-    cycle: u32,
-)
+fn agree(rt: &impl Abort, plan: &Plan, wheel: &Wheel, tile: u32, port: u32, back: u32, cycle: u32)
     requires tile { tile < tiles plan.now }
     requires port { port < ports plan.now }
     requires back { back < ports plan.now }
@@ -38,7 +30,10 @@ fn agree(
     if let Some(from) = plan.neighbour(tile, port) {
         assert_eq!(rt; wheel.leaving(port), owner(plan, tile, port, cycle));
         if plan.neighbour(from, back).is_some() && cycle >= plan.stages() {
-            assert_eq!(rt; wheel.arriving(port), owner(plan, from, back, cycle - plan.stages()));
+            assert_eq!(rt;
+                wheel.arriving(port),
+                owner(plan, from, back, cycle - plan.stages())
+            );
         }
     }
 }
