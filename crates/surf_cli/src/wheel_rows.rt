@@ -38,15 +38,24 @@ fn agree(rt: &impl Abort, plan: &Plan, wheel: &Wheel, tile: u32, port: u32, back
     }
 }
 
+/// The two ports of a tile of a row, cycle after cycle.
+fn agree_along_a_row(rt: &impl Abort, plan: &Plan, wheel: &mut Wheel, tile: u32, cycles: u32)
+    requires tile { tile < tiles plan.now }
+    requires ports { 2 < ports plan.now }
+    requires stands { Stands wheel.old plan.now tile 0 }
+{
+    for cycle in 0..cycles {
+        agree(rt, plan, wheel, tile, 1, 2, cycle);
+        agree(rt, plan, wheel, tile, 2, 1, cycle);
+        wheel.tick();
+    }
+}
+
 #[test]
 fn wheel_of_a_rows_last_tile_follows_the_owners(rt: HostRuntime) {
     let plan = row_of_five(rt.alloc()).expect(&rt, "a plan");
     assert_eq!(&rt; plan.tiles(), 5);
     assert_eq!(&rt; plan.dims(), 1);
     let mut wheel = Wheel::new(rt.alloc(), &plan, 4).expect(&rt, "memory");
-    for cycle in 0..100 {
-        agree(&rt, &plan, &wheel, 4, 1, 2, cycle);
-        agree(&rt, &plan, &wheel, 4, 2, 1, cycle);
-        wheel.tick();
-    }
+    agree_along_a_row(&rt, &plan, &mut wheel, 4, 100);
 }

@@ -1,4 +1,4 @@
-use Rattle.std.proofs.Common.{◌≡◌, ◌<◌, ◌≤◌, ◌+◌, ℕ, length, sym, ◌∙◌, arith, slice_set}
+use Rattle.std.proofs.Common.{◌<◌, length, arith}
 use Rattle.std.proofs.lemmas.Grind.{common_steps}
 use Rattle.surf_cli.proofs.Wheeled.{gone-more, still-more, all-ticked}
 use Rattle.surf_cli.proofs.turning.tick_all.Goals as goal
