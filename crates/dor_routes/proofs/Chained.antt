@@ -37,21 +37,22 @@ along-rises law p dest n i (suc k) m a b sound less at_i at_k link =
     let c = last.0 in
     let step : out_rank p dest c < out_rank p dest b = law p dest n k m c b sound last.1.0 last.1.1 link in
     elim (cases_lt i k) [
-        inl earlier ↦
+      | inl earlier ↦
           (let way = linked p dest c b last.1.1 in
-           let far = along-rises law p dest n i k way.0 a c sound earlier at_i last.1.0 way.1 in
-           omega (arith, far, step))
+          let far = along-rises law p dest n i k way.0 a c sound earlier at_i last.1.0 way.1 in
+          omega (arith, far, step))
       | inr late ↦
           (let same : i ≡ k = omega (arith, less, late) in
-           let is : Some a ≡ Some c = sym at_i ∙ ap (stop_at p dest n) same ∙ last.1.0 in
-           let one : a ≡ c = cc in
-           subst (λ (s : Stop). out_rank p dest s < out_rank p dest b) (sym one) step) ]
+          let is : Some a ≡ Some c = sym at_i ∙ ap (stop_at p dest n) same ∙ last.1.0 in
+          let one : a ≡ c = cc in
+          subst (λ (s : Stop). out_rank p dest s < out_rank p dest b) (sym one) step)
+    ]
 
 waits-rises : RankRises → (p : Plan) (a b : Channel) → IsSound p → MayWait p a b → channel_rank p a < channel_rank p b
 waits-rises law p a b sound w =
     let up = law p w.dest w.from w.steps w.beyond w.here w.there sound w.reached w.next w.link in
     subst (λ (x : Channel). channel_rank p x < channel_rank p b) (sym w.holds)
-        (subst (λ (x : Channel). channel_rank p (taken_at p w.dest w.here) < channel_rank p x) (sym w.wants) up)
+    (subst (λ (x : Channel). channel_rank p (taken_at p w.dest w.here) < channel_rank p x) (sym w.wants) up)
 
 pub chain-rises : RankRises → (p : Plan) (a b : Channel) (between : List Channel) → IsSound p → Chain p a between b → channel_rank p a < channel_rank p b
 chain-rises law p a b [] sound w = waits-rises law p a b sound w

@@ -4,9 +4,8 @@
 //! It promises nothing of its own. What the answer means is `vl_read`'s contract, and the file is the machine's.
 #![tactic(auto)]
 
-use std::env;
-use std::io;
 use std::process::ExitCode;
+use std::{env, io};
 use surf_base::{RealFiles, read_whole};
 use vl_read::read_design;
 use vl_tree::TextFault;
