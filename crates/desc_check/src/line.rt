@@ -5,7 +5,7 @@ ghost use Rattle.std.specs.Fmt.{decimal as decimal_digits};
 ghost use Rattle.desc_check.specs.Line.{fault_number, indices_of, head_of, spaced, line_of};
 
 use noc_desc::DescFault;
-use surf_base::decimal;
+use surf_base::{put_at, put_number_at};
 
 /// The number of a fault; want of memory has none.
 fn fault_number(fault: &DescFault) -> Option<u64>
@@ -42,37 +42,14 @@ fn fault_number(fault: &DescFault) -> Option<u64>
     }
 }
 
-/// Writes the bytes at place `at`, and answers the place after them.
-fn put(buf: &mut [u8], at: usize, bytes: &[u8]) -> usize
-    requires { at + length bytes.now ≤ length buf.old }
-    ensures written { take result buf.new ≡ take at buf.old ++ bytes.now }
-    ensures count { result ≡ at + length bytes.now }
-{
-    let end = at + bytes.len();
-    buf[at..end].copy_from_slice(bytes);
-    end
-}
-
-/// Writes a number in decimal.
-fn put_number(buf: &mut [u8], at: usize, value: u64) -> usize
-    requires { at + 20 ≤ length buf.old }
-    ensures written { take result buf.new ≡ take at buf.old ++ decimal_digits value }
-    ensures count { result ≡ at + length (decimal_digits value) }
-    ensures few { result ≤ at + 20 }
-{
-    let mut digits = [0; 20];
-    let count = decimal(value, &mut digits);
-    put(buf, at, &digits[..count])
-}
-
 /// Writes a blank and a number.
 fn put_index(buf: &mut [u8], at: usize, value: u64) -> usize
     requires { at + 21 ≤ length buf.old }
     ensures written { take result buf.new ≡ take at buf.old ++ 32 ∷ decimal_digits value }
     ensures few { result ≤ at + 21 }
 {
-    let start = put(buf, at, b" ".as_slice());
-    put_number(buf, start, value)
+    let start = put_at(buf, at, b" ".as_slice());
+    put_number_at(buf, start, value)
 }
 
 /// Writes two numbers, each after a blank.
@@ -131,10 +108,10 @@ fn put_head(buf: &mut [u8], number: Option<u64>) -> usize
     ensures few { result ≤ 26 }
 {
     match number {
-        None => put(buf, 0, b"surf: no memory".as_slice()),
+        None => put_at(buf, 0, b"surf: no memory".as_slice()),
         Some(number) => {
-            let at = put(buf, 0, b"surf: description fault ".as_slice());
-            put_number(buf, at, number)
+            let at = put_at(buf, 0, b"surf: description fault ".as_slice());
+            put_number_at(buf, at, number)
         }
     }
 }
@@ -147,5 +124,5 @@ pub(crate) fn put_line(buf: &mut [u8], fault: &DescFault) -> usize
 {
     let head = put_head(buf, fault_number(fault));
     let at = put_indices(buf, head, fault);
-    put(buf, at, b"\n".as_slice())
+    put_at(buf, at, b"\n".as_slice())
 }

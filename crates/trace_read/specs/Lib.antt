@@ -5,3 +5,4 @@ pub mod Faults
 pub mod Accepted
 pub mod Heads
 pub mod Restrict
+pub mod Line

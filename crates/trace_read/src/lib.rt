@@ -8,6 +8,7 @@
 
 mod entries;
 mod fault;
+mod fault_text;
 mod line;
 mod reading;
 mod restrict;
@@ -15,6 +16,7 @@ mod text;
 
 pub use entries::{Entry, Trace, Words};
 pub use fault::TraceFault;
+pub use fault_text::fault_line;
 pub use reading::read_trace;
 
 #[cfg(test)]

@@ -1,0 +1,27 @@
+-- The line that tells a fault of a trace.
+use Rattle.std.specs.Prelude.{ℕ, List, [], ◌∷◌, ◌++◌, codes, Option, Some, None}
+use Rattle.std.specs.Fmt.{decimal}
+use Rattle.trace_read.specs.declared.fault.TraceFault.{TraceFault}
+use Rattle.trace_read.specs.declared.fault.TraceFault.TheVariants.{Syntax, Number, TileRange, DomainUnknown, NotHosted, WordCount, Memory}
+
+-- a fault of a trace by its number and its line; want of memory has neither
+abbrev pub place_of : TraceFault → Option (ℕ × ℕ)
+place_of (Syntax line) = Some (1, line)
+place_of (Number line) = Some (2, line)
+place_of (TileRange line) = Some (3, line)
+place_of (DomainUnknown line) = Some (4, line)
+place_of (NotHosted line) = Some (5, line)
+place_of (WordCount line) = Some (6, line)
+place_of (Memory refused) = None
+
+-- a label, and a number in decimal
+abbrev pub labelled : List ℕ → ℕ → List ℕ
+labelled label n = label ++ decimal n
+
+abbrev pub told : Option (ℕ × ℕ) → List ℕ
+told None = codes "surf: no memory\n"
+told (Some x) = labelled (codes "surf: trace fault ") x.0 ++ labelled (codes " line ") x.1 ++ 10 ∷ []
+
+-- the line of a fault, with its LF
+abbrev pub line_of : TraceFault → List ℕ
+line_of fault = told (place_of fault)
