@@ -8,8 +8,10 @@
 mod attached;
 mod domains;
 mod net;
+mod run;
 #[cfg(test)]
 mod tests;
 mod tile;
 
 pub use net::Net;
+pub use run::run;
