@@ -6,12 +6,12 @@
 #![tactic(auto)]
 
 mod attached;
+mod cycles;
 mod domains;
 mod net;
-mod run;
 #[cfg(test)]
 mod tests;
 mod tile;
 
+pub use cycles::run;
 pub use net::Net;
-pub use run::run;
