@@ -1,12 +1,12 @@
 -- Which events may follow others.
-use Rattle.std.proofs.Common.{◌≡◌, ℕ, ◌-◌, ◌<◌, ◌≤◌, ◌⊎◌, inl, inr, List, [], ◌∷◌, ◌++◌, length, length-append, get_or, refl, sym, ap, ◌∙◌, subst, arith, Some}
+use Rattle.std.proofs.Common.{◌≡◌, ℕ, ◌-◌, ◌≤◌, inl, inr, List, [], ◌∷◌, ◌++◌, length, length-append, get_or, refl, sym, ap, ◌∙◌, subst, arith}
 use Rattle.std.proofs.Math.Seq.{get_or-append_seam}
 use Rattle.std.proofs.lemmas.Option.{get_or_from_slice_get}
 use Rattle.noc_model.specs.declared.Event.{Event}
 use Rattle.noc_model.specs.declared.Host.{Host}
 use Rattle.noc_model.specs.declared.Kind.{Kind}
 use Rattle.noc_model.specs.Sound.{IsBefore}
-use Rattle.tile_drive.specs.Order.{By, kind_place, IsNotAfter, MayFollow}
+use Rattle.tile_drive.specs.Order.{kind_place, IsNotAfter, MayFollow}
 use Rattle.tile_drive.proofs.InOrder.{IsNotAfter-trans}
 use Rattle.cycle_sim.specs.Run.{event_at, IsLater}
 

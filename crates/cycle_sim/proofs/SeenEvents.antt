@@ -1,5 +1,5 @@
 -- What is seen in a cycle are the cycle's events, of each domain.
-use Rattle.std.proofs.Common.{◌≡◌, ℕ, zero, suc, ◌+◌, Bool, true, false, eqb, List, [], ◌∷◌, ◌++◌, refl, sym, ap, ◌∙◌, arith, append_assoc, length, take, Option, Some, None}
+use Rattle.std.proofs.Common.{◌≡◌, ℕ, suc, ◌+◌, Bool, true, false, eqb, List, [], ◌∷◌, ◌++◌, refl, sym, ap, ◌∙◌, arith, append_assoc, length, take, Option, Some, None}
 use Rattle.std.specs.Prelude.{slice_get, if◌then◌else◌, ◌==◌, filter, flat_map}
 use Rattle.std.proofs.Math.Seq.{take-suc}
 use Rattle.std.proofs.lemmas.Option.{get_or_from_slice_get, slice_get_within}
@@ -14,7 +14,7 @@ use Rattle.noc_model.specs.Plan.{Plan}
 use Rattle.noc_model.specs.Sound.{IsSound}
 use Rattle.noc_model.specs.Step.{is_open}
 use Rattle.noc_model.specs.Run.{State}
-use Rattle.noc_model.specs.Driver.{Driver, number_of, driven}
+use Rattle.noc_model.specs.Driver.{Driver, driven}
 use Rattle.noc_model.specs.Events.{ejected_of, offer_events, drop_events, got_events, tile_events}
 use Rattle.noc_model.proofs.HostTiles.{host_tiles, number-is}
 use Rattle.tile_drive.specs.declared.cycle_seen.SeenAt.{SeenAt}
@@ -49,7 +49,7 @@ of-host : (t : ℕ) (h : Host) (x : SeenAt) → AreOf h.domain (seen_events t h 
 of-host t h x =
     of-both h.domain (offer_events t h.tile h.domain x.ready x.offered ++ drop_events t h.tile h.domain x.dropped) (got_events t h.tile h.domain true x.got)
     (of-both h.domain (offer_events t h.tile h.domain x.ready x.offered) (drop_events t h.tile h.domain x.dropped)
-      (of-offer t h.tile h.domain x.ready x.offered) (of-drop t h.tile h.domain x.dropped))
+    (of-offer t h.tile h.domain x.ready x.offered) (of-drop t h.tile h.domain x.dropped))
     (of-got t h.tile h.domain true x.got)
 
 all-kept : (c d : ℕ) (es : List Event) → AreOf c es → eqb c d ≡ true → filter (λ (e : Event). e.domain == d) es ≡ es
@@ -94,7 +94,7 @@ seen-tile p v t j h s states sound at =
     ap (λ got. offer_events t h.tile h.domain (is_open p (s h.tile)) (v.offer j (states j) t) ++ drop_events t h.tile h.domain (s h.tile).dropped ++ got)
     (got-heard t h.tile h.domain (v.hears j (states j) t) (ejected_of (s h.tile).ejected))
     ∙ ap (λ i. offer_events t h.tile h.domain (is_open p (s h.tile)) (v.offer i (states i) t) ++ drop_events t h.tile h.domain (s h.tile).dropped
-      ++ got_events t h.tile h.domain (v.hears i (states i) t) (ejected_of (s h.tile).ejected))
+    ++ got_events t h.tile h.domain (v.hears i (states i) t) (ejected_of (s h.tile).ejected))
     (sym (number-is p j h sound at))
 
 -- one attachment more

@@ -1,8 +1,7 @@
--- One cycle more of a run.
-use Rattle.std.proofs.Common.{◌≡◌, ℕ, suc, ◌+◌, ◌<◌, List, ◌++◌, length, get_or, refl, sym, ap, ◌∙◌, subst, arith, Option, Some}
+-- A run, and one cycle more of it.
+use Rattle.std.proofs.Common.{◌≡◌, ℕ, suc, ◌+◌, ◌<◌, List, ◌++◌, length, sym, ap, ◌∙◌, subst, arith, Some}
 use Rattle.std.specs.Prelude.{slice_get, ◌==◌, filter, flat_map, pos}
 use Rattle.std.proofs.lemmas.List.Elements.{filter-append}
-use Rattle.std.proofs.lemmas.Option.{get_or_from_slice_get, slice_get_within}
 use Rattle.noc_model.specs.declared.Event.{Event}
 use Rattle.noc_model.specs.declared.Host.{Host}
 use Rattle.noc_model.specs.Plan.{Plan}
@@ -10,13 +9,20 @@ use Rattle.noc_model.specs.Sound.{IsSound}
 use Rattle.noc_model.specs.Run.{State, start, step}
 use Rattle.noc_model.specs.Driver.{Driver, driven, next_state, driven_events, driven_state, driver_states}
 use Rattle.noc_model.specs.Events.{tile_events, cycle_events}
-use Rattle.noc_model.proofs.HostTiles.{hosts_of-tiles}
+use Rattle.noc_model.proofs.HostTiles.{hosts_of-tiles, host-within}
 use Rattle.noc_model.proofs.Driven.{state-last, states-last, events-last, step-same}
 use Rattle.tile_drive.specs.declared.cycle_seen.SeenAt.{SeenAt}
 use Rattle.tile_drive.specs.Seen.{seen_at}
 use Rattle.cycle_sim.specs.Net.{Kept, Shows, seen_of}
-use Rattle.cycle_sim.specs.Run.{HasRun, seen_events, events_seen}
+use Rattle.cycle_sim.specs.Run.{seen_events, events_seen}
 use Rattle.cycle_sim.proofs.SeenEvents.{own-events, seen-tile}
+
+-- network and driver are in the states after k cycles from the start, of each domain
+pub record HasRun (p : Plan) (v : Driver) (first : ℕ → List ℕ) (k : ℕ) (net : Kept) (states : ℕ → List ℕ) : Type 0 where
+  pub plan : net.plan ≡ p
+  pub cycle : net.cycle ≡ k
+  pub shows : (d : ℕ) → d < length p.domains → Shows net d (driven_state p d v k 0 (start p) first)
+  pub attached : (j : ℕ) (h : Host) → slice_get p.hosts j ≡ Some h → states j ≡ driver_states p h.domain v k 0 (start p) first j
 
 -- what a step says
 pub record HasStepped (p : Plan) (v : Driver) (t : ℕ) (net new : Kept) (states after : ℕ → List ℕ) (seen : List SeenAt) : Type 0 where
@@ -28,20 +34,13 @@ pub record HasStepped (p : Plan) (v : Driver) (t : ℕ) (net new : Kept) (states
   pub seen_are : (j : ℕ) (h : Host) (s : State) → slice_get p.hosts j ≡ Some h → Shows net h.domain s
       → seen_at seen j ≡ seen_of p v t j (s h.tile) (states j)
 
-domain-within : (p : Plan) (j : ℕ) (h : Host) → IsSound p → slice_get p.hosts j ≡ Some h → h.domain < length p.domains
-domain-within p j h sound at =
-    let less = slice_get_within p.hosts j h at in
-    let below = (sound.hosts j h less).1 in
-    let same = ap (λ (x : Host). x.domain) (get_or_from_slice_get p.hosts j h h at) in
-    omega (arith, below, same)
-
 -- a step, from what is known of the network and the driver before it
 stepped_from : (p : Plan) (v w : Driver) (k : ℕ) (net new : Kept) (states after : ℕ → List ℕ) (seen : List SeenAt) → net.plan ≡ p → net.cycle ≡ k → w ≡ v
     → HasStepped net.plan w net.cycle net new states after seen → HasStepped p v k net new states after seen
 stepped_from p v w k net new states after seen plan cycle driver stepped =
     subst (λ (x : Driver). HasStepped p x k net new states after seen) driver
     (subst (λ (i : ℕ). HasStepped p w i net new states after seen) cycle
-      (subst (λ (q : Plan). HasStepped q w net.cycle net new states after seen) plan stepped))
+    (subst (λ (q : Plan). HasStepped q w net.cycle net new states after seen) plan stepped))
 
 -- net and driver after one cycle more
 turn_of : (p : Plan) (v : Driver) (first : ℕ → List ℕ) (k : ℕ) (net new : Kept) (states after : ℕ → List ℕ) (seen : List SeenAt) → IsSound p
@@ -52,12 +51,12 @@ turn_of p v first k net new states after seen sound ran stepped = record {
   shows = λ d less.
       subst (λ (s : State). Shows new d s)
       (step-same p d v k (driven_state p d v k 0 (start p) first) states (driver_states p d v k 0 (start p) first)
-        (λ j h at same. ran.attached j h at ∙ ap (λ e. driver_states p e v k 0 (start p) first j) same)
-        ∙ sym (state-last p d v k 0 k (start p) first (omega arith)))
+      (λ j h at same. ran.attached j h at ∙ ap (λ e. driver_states p e v k 0 (start p) first j) same)
+      ∙ sym (state-last p d v k 0 k (start p) first (omega arith)))
       (stepped.steps d (driven_state p d v k 0 (start p) first) less (ran.shows d less));
   attached = λ j h at.
       let s : State = driven_state p h.domain v k 0 (start p) first in
-      stepped.states_are j h s at (ran.shows h.domain (domain-within p j h sound at))
+      stepped.states_are j h s at (ran.shows h.domain ((host-within p j h sound at).1))
       ∙ ap (λ state. next_state p h.domain v k s j state (Some h)) (ran.attached j h at)
       ∙ ap (next_state p h.domain v k s j (driver_states p h.domain v k 0 (start p) first j)) (sym at)
       ∙ sym (ap (λ (f : ℕ → List ℕ). f j) (states-last p h.domain v k 0 k (start p) first (omega arith)));
@@ -86,7 +85,7 @@ cycle-own p v first k d net new states after seen sound ran stepped =
         let s : State = driven_state p h.domain v k 0 (start p) first in
         let i_j : i ≡ j = omega arith in
         let here : slice_get p.hosts j ≡ Some h = ap (slice_get p.hosts) (sym i_j) ∙ has in
-        ap (seen_events k h) (stepped.seen_are j h s here (ran.shows h.domain (domain-within p j h sound here))
+        ap (seen_events k h) (stepped.seen_are j h s here (ran.shows h.domain ((host-within p j h sound here).1))
         ∙ ap (seen_of p v k j (s h.tile)) (ran.attached j h here))
         ∙ seen-tile p v k j h s (driver_states p h.domain v k 0 (start p) first) sound here
         ∙ ap (λ e. at e h.tile) same

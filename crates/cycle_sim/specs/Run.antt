@@ -1,16 +1,12 @@
--- What is seen in a cycle, as events, and how far a run has come.
-use Rattle.std.specs.Prelude.{◌≡◌, ◌<◌, ℕ, suc, true, List, [], ◌∷◌, ◌++◌, length, Some, slice_get}
+-- What is seen in a cycle, as events.
+use Rattle.std.specs.Prelude.{◌<◌, ℕ, suc, true, List, [], ◌∷◌, ◌++◌}
 use Rattle.noc_model.specs.declared.Event.{Event}
 use Rattle.noc_model.specs.declared.Kind.{Kind}
 use Rattle.noc_model.specs.declared.Host.{Host}
-use Rattle.noc_model.specs.Plan.{Plan}
-use Rattle.noc_model.specs.Run.{start}
-use Rattle.noc_model.specs.Driver.{Driver, driven_state, driver_states}
 use Rattle.noc_model.specs.Events.{offer_events, drop_events, got_events}
 use Rattle.tile_drive.specs.declared.cycle_seen.SeenAt.{SeenAt}
 use Rattle.tile_drive.specs.Seen.{seen_at}
 use Rattle.tile_drive.specs.Order.{By}
-use Rattle.cycle_sim.specs.Net.{Kept, Shows}
 
 -- an event of the attachment in the cycle
 abbrev pub event_at : ℕ → Host → Kind → Event
@@ -29,10 +25,3 @@ seen_events t h x =
 abbrev pub events_seen : ℕ → List SeenAt → ℕ → List Host → List Event
 events_seen t seen j [] = []
 events_seen t seen j (h ∷ hs) = seen_events t h (seen_at seen j) ++ events_seen t seen (suc j) hs
-
--- the network is in the state after k cycles from the start, of each domain, and so is the driver at its attachments
-pub record HasRun (p : Plan) (v : Driver) (first : ℕ → List ℕ) (k : ℕ) (net : Kept) (states : ℕ → List ℕ) : Type 0 where
-  pub plan : net.plan ≡ p
-  pub cycle : net.cycle ≡ k
-  pub shows : (d : ℕ) → d < length p.domains → Shows net d (driven_state p d v k 0 (start p) first)
-  pub attached : (j : ℕ) (h : Host) → slice_get p.hosts j ≡ Some h → states j ≡ driver_states p h.domain v k 0 (start p) first j

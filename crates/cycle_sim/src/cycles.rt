@@ -67,12 +67,7 @@ fn push_drop(events: &mut Events, t: u32, host: Host, dropped: bool) -> Result<(
 }
 
 /// Adds a flit that is heard.
-fn push_got(
-    events: &mut Events,
-    t: u32,
-    host: Host,
-    got: Option<Ejected>,
-) -> Result<(), AllocError>
+fn push_got(events: &mut Events, t: u32, host: Host, got: Option<Ejected>) -> Result<(), AllocError>
     requires { MayFollow events.old (event_at t host Drop) }
     ensures ok { OnOk result (events.new ≡ events.old ++ got_events t host.tile host.domain true got) }
     ensures follows { OnOk result ((f : Event) → IsLater t host f → MayFollow events.new f) }

@@ -5,7 +5,7 @@ ghost use Rattle.noc_model.specs.PlanOf.{plan_of};
 ghost use Rattle.noc_model.specs.Sound.{IsSound};
 ghost use Rattle.cycle_sim.specs.Net.{IsBuilt};
 
-use crate::{run, Net};
+use crate::{Net, run};
 use noc_model::{DomainPart, Host, Kind, Parts, Plan, Range};
 use std::alloc::{AllocError, Global};
 use std::test::Fail;
@@ -52,7 +52,9 @@ fn tell(alloc: Global, events: &Events) -> Result<String, AllocError> {
             Kind::Drop => format!(in alloc; "{t} drop\n")?,
             Kind::Got { flit } => {
                 let payload = flit.payload;
-                format!(in alloc; "{t} got {payload}\n")?
+                let head = if flit.head { " head" } else { "" };
+                let tail = if flit.tail { " tail" } else { "" };
+                format!(in alloc; "{t} got {payload}{head}{tail}\n")?
             }
         };
         text.push_str(line.as_str())?;
@@ -69,7 +71,7 @@ fn words_are_taken_and_got(rt: HostRuntime) {
             2,
             6,
             b"0 0 a send 10 2a\n".as_slice(),
-            "0 take 42\n4 got 42\n",
+            "0 take 42\n4 got 42 head tail\n",
         ),
         // Words wait for a full list, and a flit for a deaf attachment.
         (
@@ -77,7 +79,7 @@ fn words_are_taken_and_got(rt: HostRuntime) {
             16,
             b"0 0 a hold 10\n0 0 a send 10 1\n0 0 a send 10 2\n0 0 a send 10 3\n".as_slice(),
             "0 take 1\n1 wait 2\n2 wait 2\n3 wait 2\n4 take 2\n5 wait 3\n6 wait 3\n7 wait 3\n\
-             8 wait 3\n9 wait 3\n10 wait 3\n10 got 1\n11 take 3\n11 got 2\n15 got 3\n",
+             8 wait 3\n9 wait 3\n10 wait 3\n10 got 1 head tail\n11 take 3\n11 got 2 head tail\n15 got 3 head tail\n",
         ),
     ];
     for (buffer, cycles, text, want) in rows {

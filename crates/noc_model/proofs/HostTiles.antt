@@ -166,3 +166,9 @@ attached p n d fits = go (attach_of p n d) refl
 pub number-is : (p : Plan) (j : ℕ) (h : Host) → IsSound p → slice_get p.hosts j ≡ Some h → number_of p h.domain h.tile ≡ j
 number-is p j h sound e =
     host-unique p (number_of p h.domain h.tile) j (record { tile = h.tile; domain = h.domain }) h sound (attached p h.tile h.domain (host-hosted p j h e)) e refl refl
+
+-- the tile and the domain of an attachment are of the plan
+pub host-within : (p : Plan) (j : ℕ) (h : Host) → IsSound p → slice_get p.hosts j ≡ Some h → (h.tile < tiles p) × (h.domain < length p.domains)
+host-within p j h sound e =
+    subst (λ (x : Host). (x.tile < tiles p) × (x.domain < length p.domains)) (get_or_from_slice_get p.hosts j h h e)
+    (sound.hosts j h (slice_get_within p.hosts j h e))

@@ -1,4 +1,4 @@
-use Rattle.std.proofs.Common.{◌≡◌, ◌<◌, ◌≤◌, ◌+◌, ◌++◌, ℕ, List, length, sym, ap, ◌∙◌, subst, arith}
+use Rattle.std.proofs.Common.{◌≡◌, ◌<◌, ◌++◌, ℕ, List, length, sym, ap, ◌∙◌, subst, arith}
 use Rattle.std.specs.Prelude.{filter, ◌==◌, slice_get, Some}
 use Rattle.noc_model.specs.declared.Event.{Event}
 use Rattle.noc_model.specs.declared.Host.{Host}
@@ -7,7 +7,7 @@ use Rattle.noc_model.specs.Sound.{IsSound}
 use Rattle.noc_model.specs.Run.{start}
 use Rattle.noc_model.specs.Driver.{Driver, driven_events, driven_state, driver_states}
 use Rattle.cycle_sim.specs.Net.{Kept, Shows}
-use Rattle.cycle_sim.specs.Run.{HasRun, events_seen}
+use Rattle.cycle_sim.specs.Run.{events_seen}
 use Rattle.cycle_sim.proofs.Turns.{HasStepped, turn, turn-events}
 use Rattle.cycle_sim.proofs.cycles.run.Goals as goal
 
@@ -15,65 +15,44 @@ pub returns-in_err-push_seen-clause-states : goal.returns-in_err-push_seen-claus
 returns-in_err-push_seen-clause-states g c =
     let p : Plan = c.args.net.now.plan in
     let v : Driver = g.D.Driving.driver c.args.drive.now in
-    let w : Driver = g.D.Driving.driver c.loop-t.drive in
     let first : ℕ → List ℕ = g.D.Driving.state c.args.drive.now in
-    let states : ℕ → List ℕ = g.D.Driving.state c.loop-t.drive in
-    let after : ℕ → List ℕ = g.D.Driving.state c.step.new.drive in
-    let t = c.loop-t.t in
-    let net : Kept = c.loop-t.net in
-    let new : Kept = c.step.new.self in
-    let seen = c.step.new.seen in
-    let inv = c.loop-t.invariant in
-    let sound : IsSound p = subst IsSound c.plan.ensures c.known-2.ensures in
-    let stepped : HasStepped net.plan w net.cycle net new states after seen = record {
+    let ran = turn _ _ _ _ _ _ c.step.new.self _ (g.D.Driving.state c.step.new.drive) c.step.new.seen
+    (subst IsSound c.plan.ensures c.known-2.ensures) c.loop-t.invariant.ran c.loop-t.invariant.driver
+    (record {
       plan = c.step.ensures.plan;
       cycle = c.step.ensures.cycle;
       steps = c.step.ensures.steps;
       states_are = c.step.ensures.states;
       seen_are = c.step.ensures.seen;
-    } in
-    let ran = turn p v w first t net new states after seen sound inv.ran inv.driver stepped in
-    subst (λ (k : ℕ). (d : ℕ) → d < length p.domains → Shows new d (driven_state p d v k 0 (start p) first)) (sym ran.cycle) ran.shows
+    }) in
+    subst (λ (k : ℕ). (d : ℕ) → d < length p.domains → Shows c.step.new.self d (driven_state p d v k 0 (start p) first)) (sym ran.cycle) ran.shows
 
 pub returns-in_err-push_seen-clause-attached : goal.returns-in_err-push_seen-clause-attached
 returns-in_err-push_seen-clause-attached g c =
     let p : Plan = c.args.net.now.plan in
     let v : Driver = g.D.Driving.driver c.args.drive.now in
-    let w : Driver = g.D.Driving.driver c.loop-t.drive in
     let first : ℕ → List ℕ = g.D.Driving.state c.args.drive.now in
-    let states : ℕ → List ℕ = g.D.Driving.state c.loop-t.drive in
-    let after : ℕ → List ℕ = g.D.Driving.state c.step.new.drive in
-    let t = c.loop-t.t in
-    let net : Kept = c.loop-t.net in
-    let new : Kept = c.step.new.self in
-    let seen = c.step.new.seen in
-    let inv = c.loop-t.invariant in
-    let sound : IsSound p = subst IsSound c.plan.ensures c.known-2.ensures in
-    let stepped : HasStepped net.plan w net.cycle net new states after seen = record {
+    let ran = turn _ _ _ _ _ _ c.step.new.self _ (g.D.Driving.state c.step.new.drive) c.step.new.seen
+    (subst IsSound c.plan.ensures c.known-2.ensures) c.loop-t.invariant.ran c.loop-t.invariant.driver
+    (record {
       plan = c.step.ensures.plan;
       cycle = c.step.ensures.cycle;
       steps = c.step.ensures.steps;
       states_are = c.step.ensures.states;
       seen_are = c.step.ensures.seen;
-    } in
-    let ran = turn p v w first t net new states after seen sound inv.ran inv.driver stepped in
-    subst (λ (k : ℕ). (j : ℕ) (h : Host) → slice_get p.hosts j ≡ Some h → after j ≡ driver_states p h.domain v k 0 (start p) first j) (sym ran.cycle) ran.attached
+    }) in
+    subst (λ (k : ℕ). (j : ℕ) (h : Host) → slice_get p.hosts j ≡ Some h → g.D.Driving.state c.step.new.drive j ≡ driver_states p h.domain v k 0 (start p) first j)
+    (sym ran.cycle) ran.attached
 
 pub loop-t-preserved : goal.loop-t-preserved
 loop-t-preserved g c =
     let p : Plan = c.args.net.now.plan in
-    let v : Driver = g.D.Driving.driver c.args.drive.now in
-    let w : Driver = g.D.Driving.driver c.loop-t.drive in
-    let first : ℕ → List ℕ = g.D.Driving.state c.args.drive.now in
-    let states : ℕ → List ℕ = g.D.Driving.state c.loop-t.drive in
-    let after : ℕ → List ℕ = g.D.Driving.state c.step.new.drive in
     let t = c.loop-t.t in
     let net : Kept = c.loop-t.net in
-    let new : Kept = c.step.new.self in
-    let seen = c.step.new.seen in
     let inv = c.loop-t.invariant in
     let sound : IsSound p = subst IsSound c.plan.ensures c.known-2.ensures in
-    let stepped : HasStepped net.plan w net.cycle net new states after seen = record {
+    let stepped : HasStepped net.plan (g.D.Driving.driver c.loop-t.drive) net.cycle net c.step.new.self (g.D.Driving.state c.loop-t.drive)
+    (g.D.Driving.state c.step.new.drive) c.step.new.seen = record {
       plan = c.step.ensures.plan;
       cycle = c.step.ensures.cycle;
       steps = c.step.ensures.steps;
@@ -82,14 +61,14 @@ loop-t-preserved g c =
     } in
     let same : c.plan-in-loop-t.result.now ≡ p = c.plan-in-loop-t.ensures ∙ c.step.ensures.plan ∙ inv.ran.plan in
     record {
-      ran = turn p v w first t net new states after seen sound inv.ran inv.driver stepped;
+      ran = turn _ _ _ _ _ _ _ _ _ _ sound inv.ran inv.driver stepped;
       count = c.step.ensures.count ∙ inv.count;
       driver = c.step.ensures.driver ∙ inv.driver;
       seen_len = c.step.ensures.seen_len ∙ inv.seen_len;
       own = λ d less.
           ap (λ (es : List Event). filter (λ (e : Event). e.domain == d) es)
-          (c.in_ok-push_seen.ensures.ok ∙ ap (λ (q : Plan). c.loop-t.events ++ events_seen t seen 0 q.hosts) same)
-          ∙ turn-events p v w first t d net new states after seen c.loop-t.events sound inv.ran inv.driver stepped (inv.own d less);
+          (c.in_ok-push_seen.ensures.ok ∙ ap (λ (q : Plan). c.loop-t.events ++ events_seen t c.step.new.seen 0 q.hosts) same)
+          ∙ turn-events _ _ _ _ _ d _ _ _ _ _ c.loop-t.events sound inv.ran inv.driver stepped (inv.own d less);
       follows = λ f later. c.in_ok-push_seen.ensures.follows f (omega arith);
     }
 

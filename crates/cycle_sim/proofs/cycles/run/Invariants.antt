@@ -4,7 +4,7 @@ use Rattle.noc_model.specs.declared.Event.{Event}
 use Rattle.noc_model.specs.Run.{start}
 use Rattle.noc_model.specs.Driver.{driven_events}
 use Rattle.tile_drive.specs.Order.{MayFollow}
-use Rattle.cycle_sim.specs.Run.{HasRun}
+use Rattle.cycle_sim.proofs.Turns.{HasRun}
 use Rattle.cycle_sim.proofs.cycles.run.Given as goal
 
 abbrev pub invariant-loop-t : goal.invariant-loop-t
