@@ -111,9 +111,9 @@ fn push_seen(events: &mut Events, t: u32, plan: &Plan, seen: &Seen) -> Result<()
     Ok(())
 }
 
-/// The events of the cycles below `cycles`, of all domains. The events of each domain, its state and its attachments' are
-/// those of a run of this domain alone. Where memory is wanting, network and driver stand as after the cycles below the
-/// network's.
+/// The events of the cycles from 0 to `cycles` - 1, of all domains in one list. Those of each domain are the events of a run
+/// of this domain alone, and network and driver then stand as after that run. Where memory is wanting they stand as after
+/// the whole cycles below the network's.
 pub fn run<D: Drive>(
     alloc: Global,
     net: &mut Net,

@@ -73,6 +73,8 @@ fn words_are_taken_and_got(rt: HostRuntime) {
             b"0 0 a send 10 2a\n".as_slice(),
             "0 take 42\n4 got 42 head tail\n",
         ),
+        // A word that no tile has the address of is taken and dropped.
+        (2, 3, b"0 0 a send 20 5\n".as_slice(), "0 take 5\n1 drop\n"),
         // Words wait for a full list, and a flit for a deaf attachment.
         (
             1,

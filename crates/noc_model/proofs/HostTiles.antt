@@ -110,8 +110,11 @@ rises d a b (h ∷ hs) below ordered low =
     go : (t : Bool) → eqb h.domain d ≡ t → Rest → Rises a b (host_tiles d (h ∷ hs))
     go true e rest =
         let is : h.domain ≡ d = grind (arith, nat_tests) in
-        rw e (low 0 h (omega arith) is, below 0 h (omega arith),
-          rest (suc h.tile) (λ k x less same. after k x less (is ∙ sym same)))
+        rw e (
+          low 0 h (omega arith) is,
+          below 0 h (omega arith),
+          rest (suc h.tile) (λ k x less same. after k x less (is ∙ sym same)),
+        )
     go false e rest = rw e (rest a (λ k x less same. low (suc k) x (omega (arith, less)) same))
 
 -- the tiles that host a domain are those of its hosts, in order
