@@ -24,3 +24,4 @@ pub mod SoundExamples
 pub mod Outputs
 pub mod TileKept
 pub mod StateKept
+pub mod OwnPart
