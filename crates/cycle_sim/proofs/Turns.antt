@@ -1,5 +1,5 @@
 -- A run, and one cycle more of it.
-use Rattle.std.proofs.Common.{◌≡◌, ℕ, suc, ◌+◌, ◌<◌, List, ◌++◌, length, sym, ap, ◌∙◌, subst, arith, Some}
+use Rattle.std.proofs.Common.{◌≡◌, refl, ℕ, suc, ◌+◌, ◌<◌, List, ◌++◌, length, sym, ap, ◌∙◌, subst, arith, Some}
 use Rattle.std.specs.Prelude.{slice_get, ◌==◌, filter, flat_map, pos}
 use Rattle.std.proofs.lemmas.List.Elements.{filter-append}
 use Rattle.noc_model.specs.declared.Event.{Event}
@@ -10,7 +10,8 @@ use Rattle.noc_model.specs.Run.{State, start, step}
 use Rattle.noc_model.specs.Driver.{Driver, driven, next_state, driven_events, driven_state, driver_states}
 use Rattle.noc_model.specs.Events.{tile_events, cycle_events}
 use Rattle.noc_model.proofs.HostTiles.{hosts_of-tiles, host-within}
-use Rattle.noc_model.proofs.Driven.{state-last, states-last, events-last, step-same}
+use Rattle.noc_model.proofs.Driven.{state-last, states-last, events-last}
+use Rattle.noc_model.proofs.OwnPart.{DoAlike, step-same, driven-same}
 use Rattle.tile_drive.specs.declared.cycle_seen.SeenAt.{SeenAt}
 use Rattle.tile_drive.specs.Seen.{seen_at}
 use Rattle.cycle_sim.specs.Net.{Kept, Shows, seen_of}
@@ -42,6 +43,9 @@ stepped_from p v w k net new states after seen plan cycle driver stepped =
     (subst (λ (i : ℕ). HasStepped p w i net new states after seen) cycle
     (subst (λ (q : Plan). HasStepped q w net.cycle net new states after seen) plan stepped))
 
+alike : (v : Driver) (j : ℕ) → DoAlike v v j
+alike v j = record { offer = λ state t. refl; hears = λ state t. refl; taken = λ state t. refl; got = λ state t e. refl }
+
 -- net and driver after one cycle more
 turn_of : (p : Plan) (v : Driver) (first : ℕ → List ℕ) (k : ℕ) (net new : Kept) (states after : ℕ → List ℕ) (seen : List SeenAt) → IsSound p
     → HasRun p v first k net states → HasStepped p v k net new states after seen → HasRun p v first (suc k) new after
@@ -50,8 +54,9 @@ turn_of p v first k net new states after seen sound ran stepped = record {
   cycle = omega (arith, stepped.cycle);
   shows = λ d less.
       subst (λ (s : State). Shows new d s)
-      (step-same p d v k (driven_state p d v k 0 (start p) first) states (driver_states p d v k 0 (start p) first)
-      (λ j h at same. ran.attached j h at ∙ ap (λ e. driver_states p e v k 0 (start p) first j) same)
+      (step-same p d (pos k) (driven_state p d v k 0 (start p) first) (driven p d v states k) (driven p d v (driver_states p d v k 0 (start p) first) k)
+      (driven-same p d v v states (driver_states p d v k 0 (start p) first) k (λ j own. alike v j)
+      (λ j own. ran.attached j own.host own.at ∙ ap (λ e. driver_states p e v k 0 (start p) first j) own.own))
       ∙ sym (state-last p d v k 0 k (start p) first (omega arith)))
       (stepped.steps d (driven_state p d v k 0 (start p) first) less (ran.shows d less));
   attached = λ j h at.
