@@ -1,24 +1,17 @@
 -- The tile of a network of one tile has no links.
-use Rattle.std.proofs.Common.{◌≡◌, ℕ, zero, suc, ◌+◌, ◌*◌, ◌<◌, ◌≤◌, Bool, true, false, ◌&&◌, List, [], ◌∷◌, ◌++◌, length, refl, sym, ap, ◌∙◌, subst, arith, Option, Some, None, if◌then◌else◌}
-use Rattle.std.specs.Prelude.{nat_lt, slice_get, slice_index_or, All, pos, option_and_then, is_some}
-use Rattle.std.proofs.lemmas.Bool.Decides.{nat_tests}
+use Rattle.std.proofs.Common.{◌≡◌, ℕ, zero, suc, ◌*◌, ◌<◌, false, ◌&&◌, List, [], ◌∷◌, ◌++◌, length, refl, sym, ap, ◌∙◌, arith, None, if◌then◌else◌}
+use Rattle.std.specs.Prelude.{slice_get, slice_index_or, All, pos, option_and_then, is_some}
 use Rattle.noc_model.specs.declared.plan.DomainPart.{DomainPart}
-use Rattle.noc_model.specs.declared.LinkFlit.{LinkFlit}
-use Rattle.noc_model.specs.declared.Host.{Host}
-use Rattle.noc_model.specs.Plan.{Plan, product, tiles, channels, channels_in, hosts}
+use Rattle.noc_model.specs.Plan.{Plan, product, channels_in}
 use Rattle.noc_model.specs.Place.{side, neighbour, opposite, has_link, way_of, Way, Local, Plus, Minus}
-use Rattle.noc_model.specs.Sound.{IsSound}
 use Rattle.noc_model.specs.Tile.{Tile, start_tile}
 use Rattle.noc_model.specs.Step.{is_open, is_ready_packet}
-use Rattle.noc_model.specs.Run.{State, Input, fed, arrival, return_of, pulse_from, last_place, step}
-use Rattle.noc_model.specs.Driver.{Driver, driven, next_state, after_taken, after_got}
+use Rattle.noc_model.specs.Run.{State, fed, arrival, return_of, pulse_from, last_place, step}
+use Rattle.noc_model.specs.Driver.{Driver, driven, after_taken, after_got}
 use Rattle.noc_model.specs.Events.{ejected_of}
-use Rattle.tile_drive.specs.declared.cycle_seen.SeenAt.{SeenAt}
 use Rattle.cycle_sim.specs.OneTile.{One, start_one, Stands, driven_one, driver_after, seen_one}
 use Rattle.cycle_sim.specs.Net.{IsBuilt, seen_of}
-use Rattle.std.proofs.lemmas.Option.{get_or_from_slice_get}
-use Rattle.cycle_sim.proofs.Hosts.{inside}
-use Rattle.cycle_sim.proofs.OneStep.{AllOne, IsAlone, IsSingle, stands-step}
+use Rattle.cycle_sim.proofs.OneStep.{AllOne, IsSingle, stands-step}
 
 -- sides whose product is 1
 all-one : (ks : List ℕ) → product ks ≡ 1 → AllOne ks
@@ -124,11 +117,3 @@ starts-more [] x all is zero = is
 starts-more [] x all is (suc d) = refl
 starts-more (y ∷ xs) x all is zero = all 0
 starts-more (y ∷ xs) x all is (suc d) = starts-more xs x (λ e. all (suc e)) is d
-
--- a host's tile is the one that there is
-pub host-tile : (p : Plan) (j : ℕ) (h : Host) → IsSound p → tiles p ≡ 1 → slice_get p.hosts j ≡ Some h → h.tile ≡ 0
-host-tile p j h sound alone at =
-    let less = inside p.hosts j h at in
-    let below = (sound.hosts j h less).0 in
-    let same = ap (λ (x : Host). x.tile) (get_or_from_slice_get p.hosts j h h at) in
-    omega (arith, below, same, alone)

@@ -1,22 +1,19 @@
 -- A tile that is alone steps as the definitions say.
-use Rattle.std.proofs.Common.{◌≡◌, ◌≢◌, ℕ, zero, suc, ◌+◌, ◌*◌, ◌/◌, ◌%◌, ◌<◌, ◌≤◌, Bool, true, false, not, ◌&&◌, ◌||◌, List, [], ◌∷◌, ◌++◌, length, drop, refl, sym, ap, ◌∙◌, subst, arith, Option, Some, None, is_some, is_none, if◌then◌else◌, ◌==◌}
-use Rattle.std.specs.Prelude.{ℤ, nat_lt, nat_le, option_and_then, option_map, option_to_list, slice_index_or, nat_eq}
+use Rattle.std.proofs.Common.{◌≡◌, ℕ, zero, suc, ◌+◌, ◌*◌, ◌/◌, ◌%◌, ◌<◌, ◌≤◌, Bool, true, false, not, ◌&&◌, ◌||◌, List, [], ◌∷◌, ◌++◌, length, drop, refl, sym, ap, ◌∙◌, arith, Option, Some, None, is_some, is_none, if◌then◌else◌, ◌==◌}
+use Rattle.std.specs.Prelude.{ℤ, nat_lt, nat_le, option_and_then, option_map, option_to_list}
 use Rattle.std.specs.Option.{option_or}
 use Rattle.std.proofs.lemmas.Bool.Decides.{nat_tests}
 use Rattle.noc_model.specs.declared.Flit.{Flit}
-use Rattle.noc_model.specs.declared.LinkFlit.{LinkFlit}
-use Rattle.noc_model.specs.declared.Offer.{Offer}
 use Rattle.noc_model.specs.declared.Grant.{Grant}
 use Rattle.noc_model.specs.declared.Stage.{Stage}
 use Rattle.noc_model.specs.declared.Stage.TheVariants.{Idle, Routed, Active}
-use Rattle.noc_model.specs.Plan.{Plan, channels, lanes, in_channels, ports, classes, at_local}
-use Rattle.noc_model.specs.Place.{route, class_after, way_of, way_from, coords_in, is_wrap, port_of, Local}
+use Rattle.noc_model.specs.Plan.{Plan, channels, lanes, in_channels, ports}
+use Rattle.noc_model.specs.Place.{route, class_after, way_from, coords_in, is_wrap, port_of, Local}
 use Rattle.noc_model.specs.Pick.{pick, least, number_if}
 use Rattle.noc_model.specs.Tile.{Tile, TileIn}
-use Rattle.noc_model.specs.Step
 use Rattle.std.proofs.Math.Nat.{mod-add-div, div-eq_of_lt, mod-eq_of_lt}
 use Rattle.std.proofs.Common.{mul-zero}
-use Rattle.noc_model.specs.Step.{waits_for, grant_at, asks_for, granted_to, is_channel, with_channel, is_open, word_in, is_ready_packet, next_stage, routed, activated, is_place, is_tail_on, entry, next_packet, is_dropped, next_current, next_ejected, flit_on, tile_step, winner, is_candidate, taken_channel, free_for, free_channel, takes, is_ready, is_ready_at, asked, chosen, grant, leaves, sent, one_if, after, after_grant, front, is_tail}
+use Rattle.noc_model.specs.Step.{waits_for, grant_at, asks_for, granted_to, is_channel, with_channel, is_open, word_in, is_ready_packet, next_stage, routed, activated, is_place, is_tail_on, entry, next_packet, is_dropped, next_current, next_ejected, flit_on, tile_step, winner, is_candidate, taken_channel, free_for, takes, is_ready, is_ready_at, asked, chosen, grant, leaves, sent, one_if, after, after_grant, front, is_tail}
 use Rattle.cycle_sim.specs.declared.tile.Way.{Way}
 use Rattle.cycle_sim.specs.declared.tile.Way.TheVariants.{Waiting, Sent, Open}
 use Rattle.cycle_sim.specs.OneTile.{One, Stands, stage_of, is_open_way, has_front, leaves_one, next_way, next_one, taken_word, is_sent}

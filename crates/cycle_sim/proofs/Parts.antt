@@ -1,14 +1,12 @@
 -- Two states of a tile that is alone are one where their parts are.
-use Rattle.std.proofs.Common.{◌≡◌, ℕ, ◌<◌, List, length, Bool, true, false, Option, Some, None, IsSome, refl, arith}
+use Rattle.std.proofs.Common.{◌≡◌, ℕ, ◌<◌, length, Bool, true, false, Option, Some, None, IsSome, refl, arith}
 use Rattle.std.specs.Prelude.{nat_lt, if◌then◌else◌}
 use Rattle.std.proofs.lemmas.Bool.Decides.{nat_tests}
 use Rattle.noc_model.specs.declared.Offer.{Offer}
 use Rattle.noc_model.specs.declared.Packet.TheVariants.{Between, Passing, Dropping}
 use Rattle.noc_model.specs.Plan.{Plan}
 use Rattle.noc_model.specs.Step.{entry}
-use Rattle.noc_model.specs.declared.Flit.{Flit}
 use Rattle.noc_model.specs.declared.Packet.{Packet}
-use Rattle.cycle_sim.specs.declared.tile.Way.{Way}
 use Rattle.cycle_sim.specs.OneTile.{One, taken_word}
 
 pub same_one : {x y : One} → x.queue ≡ y.queue → x.way ≡ y.way → x.won ≡ y.won → x.granted ≡ y.granted → x.packet ≡ y.packet → x.dropped ≡ y.dropped → x.ejected ≡ y.ejected → x ≡ y

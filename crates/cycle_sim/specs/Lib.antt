@@ -1,2 +1,3 @@
 pub mod OneTile
 pub mod Net
+pub mod Run

@@ -1,5 +1,5 @@
 -- A network of one tile, for one domain with one channel: what it keeps, and what a cycle makes of it.
-use Rattle.std.specs.Prelude.{◌≡◌, ◌≤◌, ℕ, zero, suc, Bool, true, false, List, [], ◌∷◌, ◌++◌, length, drop, if◌then◌else◌, ◌&&◌, ◌||◌, Option, Some, None, is_none, is_some, option_to_list}
+use Rattle.std.specs.Prelude.{◌≡◌, ℕ, suc, Bool, true, false, List, [], ◌∷◌, ◌++◌, length, drop, if◌then◌else◌, ◌&&◌, ◌||◌, Option, None, is_none, is_some, option_to_list}
 use Rattle.noc_model.specs.declared.Flit.{Flit}
 use Rattle.noc_model.specs.declared.Offer.{Offer}
 use Rattle.noc_model.specs.declared.Stage.{Stage}

@@ -28,12 +28,15 @@ impl Model for Net {
 
     ghost Value = { Kept };
 
-    ghost use Rattle.std.specs.Prelude.{◌≡◌, ◌≤◌, length};
-    ghost use Rattle.cycle_sim.specs.Net.{IsBuilt};
+    ghost use Rattle.std.specs.Prelude.{◌≡◌, ◌≤◌, ℕ, length};
+    ghost use Rattle.cycle_sim.specs.Net.{IsBuilt, one_at};
+    ghost use Rattle.cycle_sim.specs.OneTile.{start_one};
 
     ghost view = { λ a. record { plan = a.plan; cycle = a.cycle; ones = a.ones.items } };
 
-    ghost invariant = { λ a. IsBuilt a.plan × (length a.ones.items ≡ length a.plan.domains) × (a.cycle ≤ 65536) };
+    // In cycle 0 each domain is in the start.
+    ghost invariant = { λ a. IsBuilt a.plan × (length a.ones.items ≡ length a.plan.domains) × (a.cycle ≤ 65536)
+        × (a.cycle ≡ 0 → (d : ℕ) → one_at a.ones.items d ≡ start_one) };
 }
 
 /// The tile's places for each domain.
@@ -62,6 +65,13 @@ impl Net {
             cycle: 0,
             ones,
         })
+    }
+
+    /// Gives a caller's proof that a network in cycle 0 is in the start. It does nothing.
+    pub fn known(&self)
+        ensures { self.now.cycle ≡ 0 → (d : ℕ) → Shows self.now d (start self.now.plan) }
+    {
+        let _ = &self.plan;
     }
 
     /// The cycle that comes next.

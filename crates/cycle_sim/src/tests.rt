@@ -1,16 +1,16 @@
 //! Worked rows of one tile that hosts one domain, and answers the addresses from 16 to 31.
 
-ghost use Rattle.std.specs.Prelude.{◌≡◌, ◌≤◌, length, IfOk};
+ghost use Rattle.std.specs.Prelude.{◌≡◌, ◌≤◌, IfOk};
 ghost use Rattle.noc_model.specs.PlanOf.{plan_of};
 ghost use Rattle.noc_model.specs.Sound.{IsSound};
 ghost use Rattle.cycle_sim.specs.Net.{IsBuilt};
 
-use crate::Net;
-use noc_model::{DomainPart, Host, Parts, Plan, Range};
+use crate::{Net, run};
+use noc_model::{DomainPart, Host, Kind, Parts, Plan, Range};
 use std::alloc::{AllocError, Global};
 use std::test::Fail;
 use surf_base::Bytes;
-use tile_drive::{Drive, Seen, TraceDrive};
+use tile_drive::{Events, TraceDrive};
 use trace_read::read_trace;
 
 fn one_tile(alloc: Global, buffer: u32) -> Result<Parts, AllocError>
@@ -41,56 +41,57 @@ fn one_tile(alloc: Global, buffer: u32) -> Result<Parts, AllocError>
     })
 }
 
-/// What is seen in a cycle, as the lines of a report.
-fn tell(alloc: Global, text: &mut String, t: u32, seen: &Seen) -> Result<(), AllocError>
-    requires { 1 ≤ length seen.now }
-{
-    if let Some(word) = seen.offered(0) {
-        let payload = word.payload;
-        let kind = if seen.ready(0) { "take" } else { "wait" };
-        text.push_str(format!(in alloc; "{t} {kind} {payload}\n")?.as_str())?;
-    }
-    if seen.dropped(0) {
-        text.push_str(format!(in alloc; "{t} drop\n")?.as_str())?;
-    }
-    if let Some(flit) = seen.got(0) {
-        let payload = flit.payload;
-        text.push_str(format!(in alloc; "{t} got {payload}\n")?.as_str())?;
-    }
-    Ok(())
-}
-
-/// Runs the network for so many cycles, and tells what is seen.
-fn run_tile<D: Drive>(
-    alloc: Global,
-    net: &mut Net,
-    drive: &mut D,
-    seen: &mut Seen,
-    cycles: u32,
-) -> Result<String, AllocError>
-    requires start { net.old.cycle ≡ 0 }
-    requires few { cycles ≤ 100 }
-    requires one { 1 ≤ length net.old.plan.hosts }
-    requires count { D.count drive.old ≡ length net.old.plan.hosts }
-    requires seen { length seen.old ≡ length net.old.plan.hosts }
-{
+/// The events, as the lines of a report.
+fn tell(alloc: Global, events: &Events) -> Result<String, AllocError> {
     let mut text = String::new(alloc);
-    for t in 0..cycles {
-        net.step(drive, seen);
-        tell(alloc, &mut text, t, seen)?;
+    for event in events.as_slice() {
+        let t = event.cycle;
+        let line = match event.kind {
+            Kind::Take { payload } => format!(in alloc; "{t} take {payload}\n")?,
+            Kind::Wait { payload } => format!(in alloc; "{t} wait {payload}\n")?,
+            Kind::Drop => format!(in alloc; "{t} drop\n")?,
+            Kind::Got { flit } => {
+                let payload = flit.payload;
+                let head = if flit.head { " head" } else { "" };
+                let tail = if flit.tail { " tail" } else { "" };
+                format!(in alloc; "{t} got {payload}{head}{tail}\n")?
+            }
+        };
+        text.push_str(line.as_str())?;
     }
     Ok(text)
 }
 
 #[test]
-fn a_word_stays_four_cycles(rt: HostRuntime) {
+fn words_are_taken_and_got(rt: HostRuntime) {
     let alloc = rt.alloc();
-    let plan = Plan::new(one_tile(alloc, 2).expect(&rt, "memory"));
-    assert_eq!(&rt; plan.attach_count(), 1);
-    let trace = read_trace(alloc, &plan, b"0 0 a send 00000010 0000002a\n").expect(&rt, "memory");
-    let mut drive = TraceDrive::new(alloc, &plan, &trace).expect(&rt, "memory");
-    let mut seen = Seen::new(alloc, &plan).expect(&rt, "memory");
-    let mut net = Net::new(alloc, plan).expect(&rt, "memory");
-    let text = run_tile(alloc, &mut net, &mut drive, &mut seen, 6).expect(&rt, "memory");
-    assert_eq!(&rt; text.as_str(), "0 take 42\n4 got 42\n");
+    let rows = [
+        // A word stays four cycles.
+        (
+            2,
+            6,
+            b"0 0 a send 10 2a\n".as_slice(),
+            "0 take 42\n4 got 42 head tail\n",
+        ),
+        // A word that no tile has the address of is taken and dropped.
+        (2, 3, b"0 0 a send 20 5\n".as_slice(), "0 take 5\n1 drop\n"),
+        // Words wait for a full list, and a flit for a deaf attachment.
+        (
+            1,
+            16,
+            b"0 0 a hold 10\n0 0 a send 10 1\n0 0 a send 10 2\n0 0 a send 10 3\n".as_slice(),
+            "0 take 1\n1 wait 2\n2 wait 2\n3 wait 2\n4 take 2\n5 wait 3\n6 wait 3\n7 wait 3\n\
+             8 wait 3\n9 wait 3\n10 wait 3\n10 got 1 head tail\n11 take 3\n11 got 2 head tail\n15 got 3 head tail\n",
+        ),
+    ];
+    for (buffer, cycles, text, want) in rows {
+        let plan = Plan::new(one_tile(alloc, buffer).expect(&rt, "memory"));
+        assert_eq!(&rt; plan.attach_count(), 1);
+        let trace = read_trace(alloc, &plan, text).expect(&rt, "memory");
+        let mut drive = TraceDrive::new(alloc, &plan, &trace).expect(&rt, "memory");
+        let mut net = Net::new(alloc, plan).expect(&rt, "memory");
+        let events = run(alloc, &mut net, &mut drive, cycles).expect(&rt, "memory");
+        let told = tell(alloc, &events).expect(&rt, "memory");
+        assert_eq!(&rt; told.as_str(), want);
+    }
 }

@@ -1,6 +1,8 @@
 pub mod Coords
 pub mod Plans
 pub mod Named
+pub mod HostTiles
+pub mod Driven
 pub mod Everything
 pub mod Examples
 pub mod PlanRows

@@ -1,18 +1,14 @@
 -- A domain's run depends on what is done at its own attachments alone.
-use Rattle.std.proofs.Common.{◌≡◌, ℕ, zero, suc, Bool, true, false, ◌&&◌, List, [], ◌∷◌, ◌++◌, refl, sym, ap, ◌∙◌, subst, if◌then◌else◌, Option, Some, None, arith, ◌==◌}
-use Rattle.std.specs.Prelude.{slice_get, filter, flat_map, is_some, pos, ℤ, unwrap_or}
-use Rattle.std.proofs.lemmas.Bool.Decides.{nat_tests}
+use Rattle.std.proofs.Common.{◌≡◌, ℕ, zero, suc, Bool, true, false, ◌&&◌, List, [], ◌∷◌, ◌++◌, refl, sym, ap, ◌∙◌, if◌then◌else◌, Option, Some, None, ◌==◌}
+use Rattle.std.specs.Prelude.{slice_get, filter, flat_map, is_some, pos, ℤ}
 use Rattle.noc_model.specs.declared.Host.{Host}
-use Rattle.noc_model.specs.declared.Event.{Event}
-use Rattle.noc_model.specs.declared.Offer.{Offer}
 use Rattle.noc_model.specs.declared.Ejected.{Ejected}
-use Rattle.noc_model.specs.Plan.{Plan, hosts, tiles, is_host, attach_of}
-use Rattle.noc_model.specs.Tile.{TileIn}
+use Rattle.noc_model.specs.Plan.{Plan, hosts, tiles}
 use Rattle.noc_model.specs.Step.{is_open, tile_step}
 use Rattle.noc_model.specs.Run.{State, Input, step, fed, arrival, return_of}
-use Rattle.noc_model.specs.Events.{offer_events, drop_events, got_events, ejected_of, tile_events, tabulate, hosts_of, cycle_events}
+use Rattle.noc_model.specs.Events.{offer_events, drop_events, got_events, ejected_of, tile_events, tabulate, cycle_events}
 use Rattle.noc_model.specs.Driver.{Driver, number_of, driven, after_taken, after_got, next_state, next_states, driven_events}
-use Rattle.noc_model.proofs.Named.{host_at-position, list_any-no_position}
+use Rattle.noc_model.proofs.HostTiles.{attached}
 
 -- attachment j is of domain d
 pub record IsOwn (p : Plan) (d j : ℕ) : Type 0 where
@@ -29,15 +25,7 @@ pub record DoAlike (v w : Driver) (j : ℕ) : Type 0 where
 
 -- the attachment of a tile that hosts the domain
 hosted-own : (p : Plan) (d n : ℕ) → hosts p n d ≡ true → IsOwn p d (number_of p d n)
-hosted-own p d n fits = go (attach_of p n d) refl
-  where
-    go : (o : Option ℕ) → attach_of p n d ≡ o → IsOwn p d (number_of p d n)
-    go None e = absurd (let none = list_any-no_position (is_host n d) p.hosts e in cc)
-    go (Some j) e = record {
-      host = record { tile = n; domain = d };
-      at = ap (λ o. slice_get p.hosts (unwrap_or o 0)) e ∙ host_at-position n d p.hosts j e;
-      own = refl;
-    }
+hosted-own p d n fits = record { host = record { tile = n; domain = d }; at = attached p n d fits; own = refl }
 
 -- what two functions make of the members of a filtered list
 flat_map-same : {A B : Type 0} (test : A → Bool) (f g : A → List B) (xs : List A) → ((x : A) → test x ≡ true → f x ≡ g x) → flat_map f (filter test xs) ≡ flat_map g (filter test xs)
@@ -99,10 +87,10 @@ after-same p d v w t s j state (Some h) alike =
     let e : Option Ejected = ejected_of (s h.tile).ejected in
     ap (λ b. if h.domain == d then b else state)
     (
-      ap (λ o. after_got v j (after_taken v j state t (ready && is_some o)) t (v.hears j state t) e) (alike.offer state t)
-      ∙ ap (λ x. after_got v j x t (v.hears j state t) e) (taken-same v w j state t (ready && is_some (w.offer j state t)) alike)
-      ∙ ap (λ b. after_got v j (after_taken w j state t (ready && is_some (w.offer j state t))) t b e) (alike.hears state t)
-      ∙ got-same v w j (after_taken w j state t (ready && is_some (w.offer j state t))) t (w.hears j state t) e alike
+    ap (λ o. after_got v j (after_taken v j state t (ready && is_some o)) t (v.hears j state t) e) (alike.offer state t)
+    ∙ ap (λ x. after_got v j x t (v.hears j state t) e) (taken-same v w j state t (ready && is_some (w.offer j state t)) alike)
+    ∙ ap (λ b. after_got v j (after_taken w j state t (ready && is_some (w.offer j state t))) t b e) (alike.hears state t)
+    ∙ got-same v w j (after_taken w j state t (ready && is_some (w.offer j state t))) t (w.hears j state t) e alike
     )
 
 pub states-same : (p : Plan) (d : ℕ) (v w : Driver) (states others : ℕ → List ℕ) (t : ℕ) (s : State) → ((j : ℕ) → IsOwn p d j → DoAlike v w j) → ((j : ℕ) → IsOwn p d j → states j ≡ others j)

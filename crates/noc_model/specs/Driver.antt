@@ -61,3 +61,15 @@ driven_events p d v zero t s states = []
 driven_events p d v (suc k) t s states =
     cycle_events p d t s (driven p d v states t)
     ++ driven_events p d v k (suc t) (step p d (pos t) s (driven p d v states t)) (next_states p d v states t s)
+
+-- the state of the domain after k cycles from t on, from the state s and the attachments' states
+abbrev pub driven_state : Plan → ℕ → Driver → ℕ → ℕ → State → (ℕ → List ℕ) → State
+driven_state p d v zero t s states = s
+driven_state p d v (suc k) t s states =
+    driven_state p d v k (suc t) (step p d (pos t) s (driven p d v states t)) (next_states p d v states t s)
+
+-- the attachments' states after k cycles from t on, where only those of the domain move
+abbrev pub driver_states : Plan → ℕ → Driver → ℕ → ℕ → State → (ℕ → List ℕ) → ℕ → List ℕ
+driver_states p d v zero t s states = states
+driver_states p d v (suc k) t s states =
+    driver_states p d v k (suc t) (step p d (pos t) s (driven p d v states t)) (next_states p d v states t s)

@@ -14,7 +14,7 @@ By-trans a b c P Q R f (inr p) (inl q) = let e = p.0 in inl (omega arith)
 By-trans a b c P Q R f (inr p) (inr q) = inr (p.0 ∙ q.0, f p.1 q.1)
 
 -- the order of events is transitive
-IsNotAfter-trans : (a b c : Event) → IsNotAfter a b → IsNotAfter b c → IsNotAfter a c
+pub IsNotAfter-trans : (a b c : Event) → IsNotAfter a b → IsNotAfter b c → IsNotAfter a c
 IsNotAfter-trans a b c =
     By-trans a.cycle b.cycle c.cycle _ _ _ (By-trans a.tile b.tile c.tile _ _ _ (By-trans a.domain b.domain c.domain _ _ _
     (λ (p : kind_place a.kind ≤ kind_place b.kind) (q : kind_place b.kind ≤ kind_place c.kind). omega arith)))

@@ -1,4 +1,4 @@
-mod InOrder
+pub mod InOrder
 pub mod LaneLemmas
 pub mod Restricted
 mod Rows

@@ -1,6 +1,5 @@
-use Rattle.std.proofs.Common.{◌≡◌, ◌≢◌, ◌<◌, ◌≤◌, ◌⊎◌, inl, inr, ◌+◌, ℕ, List, Some, length, sym, ap, ◌∙◌, subst, arith, below_more, get_or, get_or-set_other, get_or-set_same, refl}
-use Rattle.std.specs.Prelude.{slice_get, slice_set}
-use Rattle.std.proofs.lemmas.Option.{get_or_from_slice_get}
+use Rattle.std.proofs.Common.{◌≡◌, ◌≢◌, ◌<◌, ◌⊎◌, inl, inr, ℕ, Some, length, sym, ap, ◌∙◌, arith, below_more, get_or, get_or-set_other, get_or-set_same}
+use Rattle.std.specs.Prelude.{slice_get}
 use Rattle.std.proofs.lemmas.List.{get_or_default}
 use Rattle.std.proofs.lemmas.Bool.{cases_lt}
 use Rattle.noc_model.specs.declared.Host.{Host}
@@ -8,7 +7,8 @@ use Rattle.noc_model.specs.Driver.{Driver}
 use Rattle.cycle_sim.specs.OneTile.{One, start_one, driven_one, driver_after, seen_one}
 use Rattle.tile_drive.specs.Seen.{seen_at}
 use Rattle.cycle_sim.specs.Net.{one_at}
-use Rattle.cycle_sim.proofs.Hosts.{driven-same, inside}
+use Rattle.noc_model.proofs.HostTiles.{host-within}
+use Rattle.cycle_sim.proofs.Hosts.{driven-same}
 use Rattle.cycle_sim.proofs.domains.step_domains.Goals as goal
 
 pub loop-d-preserved : goal.loop-d-preserved
@@ -63,7 +63,4 @@ loop-d-preserved g c =
 pub returns-clause-attached : goal.returns-clause-attached
 returns-clause-attached g c = λ j h at.
     c.loop-d.invariant.stepped j h at
-    (let less = inside c.args.plan.now.hosts j h at in
-    let in_range = (c.known.ensures.hosts j h less).1 in
-    let same = ap (λ (x : Host). x.domain) (get_or_from_slice_get c.args.plan.now.hosts j h h at) in
-    omega arith)
+    (let within = (host-within c.args.plan.now j h c.known.ensures at).1 in omega arith)

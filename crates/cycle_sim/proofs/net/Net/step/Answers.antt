@@ -1,4 +1,4 @@
-use Rattle.std.proofs.Common.{◌≡◌, ◌<◌, ◌≤◌, ℕ, List, length, take, drop, ◌++◌, true, refl, sym, ap, ◌∙◌, subst, arith}
+use Rattle.std.proofs.Common.{◌≡◌, ◌<◌, ℕ, List, length, take, drop, ◌++◌, true, sym, ap, ◌∙◌, subst, arith}
 use Rattle.std.specs.Prelude.{Some, slice_get, ◌==◌, pos, if◌then◌else◌, is_some, ◌&&◌}
 use Rattle.std.proofs.Math.Seq.{take-append_seam}
 use Rattle.std.proofs.lemmas.Bool.Decides.{nat_tests}
@@ -8,9 +8,10 @@ use Rattle.noc_model.specs.Driver.{Driver, driven, next_state, after_got, after_
 use Rattle.tile_drive.specs.Seen.{seen_at}
 use Rattle.noc_model.specs.Events.{ejected_of}
 use Rattle.noc_model.specs.Step.{is_open}
-use Rattle.cycle_sim.specs.OneTile.{One, Stands, driven_one}
+use Rattle.cycle_sim.specs.OneTile.{One, Stands}
 use Rattle.cycle_sim.specs.Net.{Kept, Shows, one_at, seen_of}
-use Rattle.cycle_sim.proofs.Alone.{single, stands-driven, state-after, seen-is, host-tile}
+use Rattle.cycle_sim.proofs.Alone.{single, stands-driven, state-after, seen-is}
+use Rattle.cycle_sim.proofs.Hosts.{host-tile}
 use Rattle.cycle_sim.proofs.net.Net.step.Goals as goal
 
 pub returns-clause-steps : goal.returns-clause-steps
