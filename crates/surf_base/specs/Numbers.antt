@@ -29,10 +29,22 @@ hex_word value = map (λ place. digit_glyph false ((value / 16 ^ place) % 16)) (
 abbrev pub are_digits : ℕ → List ℕ → Bool
 are_digits radix bytes = list_all (λ c. nat_lt (digit_value c) radix) bytes
 
+-- 1 to `longest` digits of the radix
+abbrev pub is_numeral : ℕ → ℕ → List ℕ → Bool
+is_numeral radix longest bytes = nat_le 1 (length bytes) && (nat_le (length bytes) longest && are_digits radix bytes)
+
 -- 1 to 10 decimal digits that write a number of at most `most`
 abbrev pub is_decimal : ℕ → List ℕ → Bool
-is_decimal most bytes = nat_le 1 (length bytes) && (nat_le (length bytes) 10 && (are_digits 10 bytes && nat_le (decimal_value bytes) most))
+is_decimal most bytes = is_numeral 10 10 bytes && nat_le (decimal_value bytes) most
 
 -- the number of at most `most` that the bytes are, in decimal
 unfoldable pub decimal_in : ℕ → List ℕ → Option ℕ
 decimal_in most bytes = if is_decimal most bytes then Some (decimal_value bytes) else None
+
+-- 1 to 8 hexadecimal digits, in either case
+abbrev pub is_hex : List ℕ → Bool
+is_hex bytes = is_numeral 16 8 bytes
+
+-- the number that the bytes are, in hexadecimal
+unfoldable pub hex_in : List ℕ → Option ℕ
+hex_in bytes = if is_hex bytes then Some (hex_value bytes) else None
