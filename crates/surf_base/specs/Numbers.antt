@@ -1,8 +1,8 @@
 -- Numbers as they are spelled in descriptions, traces and reports.
-use Rattle.std.specs.Prelude.{ℕ, ◌^◌, ◌/◌, ◌%◌, ◌≤◌, Bool, false, ◌&&◌, nat_le, nat_lt, if◌then◌else◌, List, [], ◌∷◌, length, map, Option, Some, None}
+use Rattle.std.specs.Prelude.{ℕ, ◌^◌, ◌/◌, ◌%◌, ◌≤◌, Bool, false, ◌&&◌, nat_le, nat_lt, if◌then◌else◌, List, [], ◌∷◌, ◌++◌, length, map, Option, Some, None}
 use Rattle.std.specs.Char.{digit_value}
 use Rattle.std.specs.List.{list_all}
-use Rattle.std.specs.Fmt.{digit_glyph}
+use Rattle.std.specs.Fmt.{decimal, digit_glyph}
 use Rattle.std.specs.Str.Parse.{IsNumeral, digits_value}
 
 -- the number that decimal digits write
@@ -12,6 +12,10 @@ decimal_value bytes = digits_value 10 bytes
 -- 1 to 10 decimal digits that write a number of at most `most`
 abbrev pub IsDecimal : ℕ → List ℕ → Type 0
 IsDecimal most bytes = IsNumeral 10 bytes × (length bytes ≤ 10) × (decimal_value bytes ≤ most)
+
+-- a label, and a number in decimal
+abbrev pub labelled : List ℕ → ℕ → List ℕ
+labelled label n = label ++ decimal n
 
 -- the number that hexadecimal digits write
 abbrev pub hex_value : List ℕ → ℕ
