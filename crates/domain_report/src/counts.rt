@@ -5,7 +5,6 @@ ghost use Rattle.surf_base.specs.Block.{Writes, stream};
 ghost use Rattle.noc_model.specs.Report.{is_take, is_wait, is_drop, is_got};
 ghost use Rattle.domain_report.specs.Counts.{total, end_line};
 
-use crate::fields::{put_next, put_number};
 use noc_model::Kind;
 use surf_base::{Block, Failed, Sink};
 
@@ -46,10 +45,9 @@ pub(crate) fn put_counts<O: Sink>(
     ensures { Writes result (stream (O.written out.old) block.old (O.faults out.old))
         (stream (O.written out.new) block.new (O.faults out.new)) (end_line counts.now) }
 {
-    block.put(out, b"end ")?;
-    put_number(block, out, counts.takes)?;
-    put_next(block, out, counts.waits)?;
-    put_next(block, out, counts.drops)?;
-    put_next(block, out, counts.gots)?;
+    block.put_labelled(out, b"end ", counts.takes)?;
+    block.put_labelled(out, b" ", counts.waits)?;
+    block.put_labelled(out, b" ", counts.drops)?;
+    block.put_labelled(out, b" ", counts.gots)?;
     block.put(out, b"\n")
 }

@@ -6,7 +6,7 @@ ghost use Rattle.noc_model.specs.Report.{event_line};
 ghost use Rattle.domain_report.specs.Counts.{counts_of};
 
 use crate::counts::Counts;
-use crate::fields::{put_kind, put_next, put_number};
+use crate::fields::put_kind;
 use noc_model::Event;
 use surf_base::{Block, Failed, Sink};
 
@@ -15,8 +15,8 @@ fn put_event<O: Sink>(block: &mut Block, out: &mut O, event: &Event) -> Result<(
     ensures { Writes result (stream (O.written out.old) block.old (O.faults out.old))
         (stream (O.written out.new) block.new (O.faults out.new)) (event_line event.now) }
 {
-    put_number(block, out, u64::from(event.cycle))?;
-    put_next(block, out, u64::from(event.tile))?;
+    block.put_number(out, u64::from(event.cycle))?;
+    block.put_labelled(out, b" ", u64::from(event.tile))?;
     put_kind(block, out, event.kind)?;
     block.put(out, b"\n")
 }

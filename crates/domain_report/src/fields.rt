@@ -1,30 +1,11 @@
 //! Parts of lines.
 
-ghost use Rattle.std.specs.Prelude.{◌≡◌, ◌++◌, ◌∷◌, [], codes, decimal};
+ghost use Rattle.std.specs.Prelude.{◌≡◌, ◌++◌, ◌∷◌, [], codes};
 ghost use Rattle.surf_base.specs.Block.{Writes, stream};
 ghost use Rattle.noc_model.specs.Report.{hex_digits, bit_byte, kind_bytes};
 
 use noc_model::{Ejected, Kind};
-use surf_base::{Block, Failed, Sink, decimal as put_digits, hex8};
-
-/// Puts a number in decimal.
-pub(crate) fn put_number<O: Sink>(block: &mut Block, out: &mut O, value: u64) -> Result<(), Failed>
-    ensures { Writes result (stream (O.written out.old) block.old (O.faults out.old))
-        (stream (O.written out.new) block.new (O.faults out.new)) (decimal value) }
-{
-    let mut digits = [0; 20];
-    let len = put_digits(value, &mut digits);
-    block.put(out, &digits[..len])
-}
-
-/// Puts a blank, and a number in decimal.
-pub(crate) fn put_next<O: Sink>(block: &mut Block, out: &mut O, value: u64) -> Result<(), Failed>
-    ensures { Writes result (stream (O.written out.old) block.old (O.faults out.old))
-        (stream (O.written out.new) block.new (O.faults out.new)) (32 ∷ decimal value) }
-{
-    block.put(out, b" ")?;
-    put_number(block, out, value)
-}
+use surf_base::{Block, Failed, Sink, hex8};
 
 /// Puts a label, and a word in hexadecimal.
 fn put_word<O: Sink>(block: &mut Block, out: &mut O, label: &[u8], word: u32) -> Result<(), Failed>

@@ -1,14 +1,10 @@
 -- Ways by lists of coordinates, and ways by port numbers.
-use Rattle.std.proofs.Common.{◌≡◌, ◌≢◌, ℕ, zero, suc, ◌+◌, ◌-◌, ◌*◌, ◌/◌, ◌%◌, ◌<◌, ◌≤◌, Bool, true, false, List, [], ◌∷◌, length, IsSome, refl, sym, ap, arith, if◌then◌else◌, ◌==◌, ◌&&◌}
-use Rattle.std.specs.Prelude.{Some, None, slice_index, nat_lt}
+use Rattle.std.proofs.Common.{◌≡◌, ◌≢◌, ℕ, zero, suc, ◌+◌, ◌-◌, ◌*◌, ◌/◌, ◌%◌, ◌<◌, ◌≤◌, Bool, true, false, List, [], ◌∷◌, length, refl, sym, arith, if◌then◌else◌, ◌==◌, ◌&&◌}
+use Rattle.std.specs.Prelude.{slice_index, nat_lt}
 use Rattle.std.proofs.lemmas.Bool.Decides.{nat_tests}
 use Rattle.noc_model.specs.Plan.{Plan, classes}
-use Rattle.noc_model.specs.Place.{Way, Local, Plus, Minus, way_of, way_from, goes_plus, coords_in, neighbour, has_link, side, coord, is_wrap_way, is_wrap, are_edges, next_in, last_in, rank, rank_of, position}
-use Rattle.noc_model.proofs.Coords.{in-sides}
-
-pub length-coords : (ks : List ℕ) (n : ℕ) → length (coords_in ks n) ≡ length ks
-length-coords [] n = refl
-length-coords (k ∷ ks) n = ap suc (length-coords ks (n / k))
+use Rattle.noc_model.specs.Place.{Way, Local, Plus, Minus, way_of, way_from, goes_plus, side, coord, is_wrap_way, is_wrap, are_edges, next_in, last_in, rank, rank_of, position}
+use Rattle.noc_model.proofs.Ports.{way-by}
 
 -- the first coordinate that differs decides
 pub way-differs : (torus : Bool) (b i : ℕ) (ks xs ys : List ℕ) → i < length ks → length xs ≡ length ks → length ys ≡ length ks
@@ -37,38 +33,6 @@ way-same torus b (k ∷ ks) (x ∷ xs) (y ∷ ys) lx ly same =
     let head : x ≡ y = same 0 (omega arith) in
     let yes : (x == y) ≡ true = grind (arith, nat_tests) in
     rw yes (way-same torus (suc b) ks xs ys (omega arith) (omega arith) (λ j h. same (suc j) (omega arith)))
-
--- odd ports are plus, and even ones minus
-pub way-by : (port : ℕ) → port ≢ 0 → way_of port ≡ (if port % 2 == 1 then Plus ((port - 1) / 2) else Minus ((port - 1) / 2))
-way-by zero link = absurd (link refl)
-way-by (suc n) link = go (n % 2) refl (omega arith)
-  where
-    one_less : suc n - 1 ≡ n
-    one_less = omega arith
-
-    go : (r : ℕ) → n % 2 ≡ r → r < 2 → (if r == 0 then Plus (n / 2) else Minus (n / 2)) ≡ (if suc n % 2 == 1 then Plus ((suc n - 1) / 2) else Minus ((suc n - 1) / 2))
-    go zero e h = let odd : suc n % 2 ≡ 1 = omega arith in rw (odd, one_less) refl
-    go (suc zero) e h = let even : suc n % 2 ≡ 0 = omega arith in rw (even, one_less) refl
-    go (suc (suc r)) e h = absurd (omega arith)
-
-link-side : (p : Plan) (n : ℕ) (w : Way) (i : ℕ) (b : Bool) → w ≡ (if b then Plus i else Minus i) → has_link p n w ≡ true → 1 < side p i
-link-side p n w i true e h = let l = rw e at h in grind (arith, nat_tests)
-link-side p n w i false e h = let l = rw e at h in grind (arith, nat_tests)
-
-some-if : (b : Bool) (m : ℕ) → IsSome (if b then Some m else None) → b ≡ true
-some-if true m h = refl
-some-if false m h = absurd (cc h)
-
--- a port with a link is a port of a dimension
-pub link-port : (p : Plan) (n port : ℕ) → IsSome (neighbour p n port) → port ≢ 0
-unfolding neighbour
-link-port p n zero h = λ e. absurd (cc h)
-link-port p n (suc m) h = λ e. omega arith
-
-pub link-dim : (p : Plan) (n port : ℕ) → IsSome (neighbour p n port) → (port - 1) / 2 < length p.dims
-unfolding neighbour side
-link-dim p n port h =
-    in-sides p.dims ((port - 1) / 2) (link-side p n (way_of port) ((port - 1) / 2) (port % 2 == 1) (way-by port (link-port p n port h)) (some-if _ _ h))
 
 -- ---- by the parity of the port
 

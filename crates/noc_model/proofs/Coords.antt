@@ -61,6 +61,10 @@ within-set (k ∷ ks) (c ∷ cs) (suc i) x h below = (h.0, within-set ks cs i x 
 pub sum-set : (cs : List ℕ) (i x : ℕ) → i < length cs → sum_by (λ c. c) (slice_set cs i x) + slice_index cs i ≡ sum_by (λ c. c) cs + x
 sum-set cs i x h = sum_by-set (λ c. c) cs i x 0 h
 
+pub length-coords : (ks : List ℕ) (n : ℕ) → length (coords_in ks n) ≡ length ks
+length-coords [] n = refl
+length-coords (k ∷ ks) n = ap suc (length-coords ks (n / k))
+
 pub length-within : (ks cs : List ℕ) → Within ks cs → length cs ≡ length ks
 length-within [] [] h = refl
 length-within [] (c ∷ cs) h = absurd h

@@ -12,6 +12,7 @@ pub mod Least
 pub mod Switch
 pub mod Sum
 pub mod Wave
+pub mod Ports
 pub mod Links
 pub mod Kept
 pub mod SharedRows

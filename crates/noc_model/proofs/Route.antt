@@ -9,7 +9,8 @@ use Rattle.noc_model.specs.Place.{Way, way_of, opposite_way, opposite, side, nei
 use Rattle.noc_model.specs.Walk.{Stop, out_of, out_class, out_rank, next_stop, stop_at}
 use Rattle.noc_model.proofs.Coords.{AllPositive}
 use Rattle.noc_model.proofs.Kept.{positive-sound}
-use Rattle.noc_model.proofs.Wave.{neighbour-is, way_of-port_of}
+use Rattle.noc_model.proofs.Wave.{neighbour-is}
+use Rattle.noc_model.proofs.Ports.{opposite-is}
 use Rattle.noc_model.proofs.Rank.{Came, SmallSides, class_by, leads-to, came-next, rises-along}
 
 small-in : (ks : List ℕ) (i : ℕ) → AllByRecursion (λ k. (1 ≤ k) × (k ≤ 16)) ks → slice_index_or ks i 1 ≤ 16
@@ -31,10 +32,6 @@ record IsNext (p : Plan) (dest : ℕ) (a b : Stop) : Type 0 where
 class-is : (p : Plan) (dest : ℕ) (a : Stop) → out_class p dest a ≡ class_by p a.tile (way_of a.port) a.class (way_of (out_of p dest a))
 unfolding class_after is_wrap
 class-is p dest a = refl
-
-opposite-is : (port : ℕ) → way_of (opposite port) ≡ opposite_way (way_of port)
-unfolding opposite
-opposite-is port = way_of-port_of (opposite_way (way_of port))
 
 next-is : (p : Plan) (dest : ℕ) (a b : Stop) → next_stop p dest a ≡ Some b → IsNext p dest a b
 next-is p dest a b e = go (neighbour p a.tile (out_of p dest a)) refl e

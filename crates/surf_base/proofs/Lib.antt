@@ -4,4 +4,4 @@ pub mod MemFilesLemmas
 pub mod NumbersLemmas
 mod Rows
 pub mod Blocks
-pub mod Decimals
+pub mod Numerals

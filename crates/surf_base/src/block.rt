@@ -1,8 +1,11 @@
 //! Bytes that are gathered on their way to a sink.
 
-ghost use Rattle.std.specs.Prelude.{◌≡◌, ◌+◌, ◌≤◌, ◌++◌, List, ℕ, [], length, OnOk, IfOk, vec_len, vec_capacity};
+ghost use Rattle.std.specs.Prelude.{◌≡◌, ◌+◌, ◌≤◌, ◌++◌, ◌∷◌, List, ℕ, [], length, OnOk, IfOk, vec_len, vec_capacity};
+ghost use Rattle.std.specs.Fmt.{decimal as decimal_digits};
 ghost use Rattle.surf_base.specs.Block.{Writes, stream};
+ghost use Rattle.surf_base.specs.Numbers.{labelled};
 
+use crate::numbers::decimal;
 use crate::outside::{Failed, Sink};
 use crate::writing::write_all;
 use std::alloc::{AllocError, Global};
@@ -59,6 +62,48 @@ impl Block {
         }
         match self.flush(sink) {
             Ok(()) => write_past(self, sink, piece),
+            Err(fault) => Err(fault),
+        }
+    }
+
+    /// Puts a number in decimal.
+    pub fn put_number<O: Sink>(&mut self, sink: &mut O, value: u64) -> Result<(), Failed>
+        ensures { Writes result (stream (O.written sink.old) self.old (O.faults sink.old))
+            (stream (O.written sink.new) self.new (O.faults sink.new)) (decimal_digits value) }
+    {
+        let mut digits = [0; 20];
+        let count = decimal(value, &mut digits);
+        self.put(sink, &digits[..count])
+    }
+
+    /// Puts a number in decimal, and a byte.
+    pub fn put_number_then<O: Sink>(
+        &mut self,
+        sink: &mut O,
+        value: u64,
+        end: u8,
+    ) -> Result<(), Failed>
+        ensures { Writes result (stream (O.written sink.old) self.old (O.faults sink.old))
+            (stream (O.written sink.new) self.new (O.faults sink.new)) (decimal_digits value ++ end ∷ []) }
+    {
+        match self.put_number(sink, value) {
+            Ok(()) => self.put(sink, &[end]),
+            Err(fault) => Err(fault),
+        }
+    }
+
+    /// Puts a label, and a number in decimal.
+    pub fn put_labelled<O: Sink>(
+        &mut self,
+        sink: &mut O,
+        label: &[u8],
+        value: u64,
+    ) -> Result<(), Failed>
+        ensures { Writes result (stream (O.written sink.old) self.old (O.faults sink.old))
+            (stream (O.written sink.new) self.new (O.faults sink.new)) (labelled label.now value) }
+    {
+        match self.put(sink, label) {
+            Ok(()) => self.put_number(sink, value),
             Err(fault) => Err(fault),
         }
     }

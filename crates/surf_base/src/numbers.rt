@@ -2,7 +2,7 @@ ghost use Rattle.std.specs.Prelude.{◌≡◌, ◌+◌, ◌*◌, ◌/◌, ◌%�
 ghost use Rattle.std.specs.Option.{SomeIff};
 ghost use Rattle.std.specs.Fmt.{decimal as decimal_digits, digit_glyph};
 ghost use Rattle.std.specs.Str.Parse.{AllDigits, digits_value};
-ghost use Rattle.surf_base.specs.Numbers.{decimal_value, IsDecimal, decimal_in, hex_value, IsHex, hex_word};
+ghost use Rattle.surf_base.specs.Numbers.{decimal_value, IsDecimal, decimal_in, hex_value, IsHex, hex_in, hex_word};
 
 /// Writes the decimal digits of `value` to the front of `buf`, and answers how many there are.
 pub fn decimal(value: u64, buf: &mut [u8; 20]) -> usize
@@ -95,6 +95,14 @@ fn hex_digit(value: u32, unit: u32) -> u8
 
 /// The number that 1 to 8 hexadecimal digits in either case write.
 pub fn read_hex(bytes: &[u8]) -> Option<u32>
+    ensures value { SomeIff result (IsHex bytes.now) (hex_value bytes.now) }
+    ensures computed { result ≡ hex_in bytes.now }
+{
+    short_hex(bytes)
+}
+
+/// The same, as one of two facts.
+fn short_hex(bytes: &[u8]) -> Option<u32>
     ensures { SomeIff result (IsHex bytes.now) (hex_value bytes.now) }
 {
     if bytes.is_empty() || bytes.len() > 8 {

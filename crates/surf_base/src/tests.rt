@@ -132,6 +132,23 @@ fn a_block_hands_on_all_pieces(rt: HostRuntime) -> Result<(), Fail> {
 }
 
 #[test]
+fn a_block_puts_numbers(rt: HostRuntime) -> Result<(), Fail> {
+    let mut sink = MemSink::new(rt.alloc(), 100, 7, &[])?;
+    let mut block = Block::new(rt.alloc())?;
+    block.put_labelled(&mut sink, b"faults ", 12)?;
+    block.put_labelled(&mut sink, b" line ", u64::MAX)?;
+    block.put(&mut sink, b"\n")?;
+    block.put_number_then(&mut sink, 10, b' ')?;
+    block.put_number(&mut sink, 0)?;
+    block.flush(&mut sink)?;
+    assert_eq!(rt;
+        sink.bytes(),
+        b"faults 12 line 18446744073709551615\n10 0".as_slice()
+    );
+    Ok(())
+}
+
+#[test]
 fn real_files_and_sinks_hand_bytes_on(rt: HostRuntime) -> Result<(), Fail> {
     let name = "surf_base_real_file";
     let file = fs::create(&rt, name)?;

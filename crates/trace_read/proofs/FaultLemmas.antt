@@ -2,12 +2,12 @@
 use Rattle.std.proofs.Common.{◌≡◌, ℕ, Bool, true, false, ◌||◌, Some, List, ◌∷◌, [], length, refl, sym, ap, ◌∙◌}
 use Rattle.std.specs.Prelude.{◌==◌, nat_lt, map}
 use Rattle.std.proofs.lemmas.List.{length-map}
+use Rattle.surf_base.specs.Numbers.{hex_in}
 use Rattle.noc_model.specs.Plan.{Plan}
 use Rattle.trace_read.specs.declared.entries.Entry.TheVariants.{Send, Hold}
 use Rattle.trace_read.specs.declared.fault.TraceFault.{TraceFault}
 use Rattle.trace_read.specs.declared.fault.TraceFault.TheVariants.{Syntax, Number, TileRange, DomainUnknown, NotHosted, WordCount, Memory}
 use Rattle.trace_read.specs.Accepted.{MemoryOr}
-use Rattle.trace_read.specs.Hex.{hex_in}
 use Rattle.trace_read.specs.Entries.{is_send, number, word_of, attach_named, entry_of}
 use Rattle.trace_read.specs.Faults.{has_no_word, first_of, place_faults, field_faults}
 

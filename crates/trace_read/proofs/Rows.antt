@@ -1,12 +1,11 @@
 -- Small traces, computed.
 use Rattle.std.proofs.Common.{◌≡◌, [], ◌∷◌, ◌++◌, Some, None, codes, refl}
 use Rattle.std.specs.Prelude.{map}
-use Rattle.surf_base.specs.Numbers.{decimal_in}
+use Rattle.surf_base.specs.Numbers.{decimal_in, hex_in}
 use Rattle.noc_model.proofs.Examples.{one_tile, two_tiles, split_domains}
 use Rattle.trace_read.specs.declared.entries.Entry.TheVariants.{Send, Hold}
 use Rattle.trace_read.specs.declared.fault.TraceFault.TheVariants.{Syntax, Number, TileRange, DomainUnknown, NotHosted, WordCount}
 use Rattle.trace_read.specs.Text.{fields}
-use Rattle.trace_read.specs.Hex.{hex_in}
 use Rattle.trace_read.specs.Accepted.{first_fault, trace_of}
 use Rattle.trace_read.specs.Restrict.{of_domain}
 

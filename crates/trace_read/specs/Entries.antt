@@ -1,13 +1,12 @@
 -- The entry that a line's fields write for a plan.
 use Rattle.std.specs.Prelude.{ℕ, Bool, true, ◌==◌, if◌then◌else◌, List, [], ◌∷◌, map, drop, position, filter_map, codes, Option, Some, None, unwrap_or, slice_index, slice_index_or}
 use Rattle.std.specs.Str.{bytes_eq}
-use Rattle.surf_base.specs.Numbers.{decimal_in}
+use Rattle.surf_base.specs.Numbers.{decimal_in, hex_in}
 use Rattle.noc_model.specs.Plan.{Plan, attach_of}
 use Rattle.noc_model.specs.declared.plan.DomainPart.{DomainPart}
 use Rattle.trace_read.specs.declared.entries.Entry.{Entry}
 use Rattle.trace_read.specs.declared.entries.Entry.TheVariants.{Send, Hold}
 use Rattle.trace_read.specs.Text.{fields}
-use Rattle.trace_read.specs.Hex.{hex_in}
 
 -- field i of these, from 0
 abbrev pub field : List (List ℕ) → ℕ → List ℕ

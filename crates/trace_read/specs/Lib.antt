@@ -1,5 +1,4 @@
 pub mod Text
-pub mod Hex
 pub mod Entries
 pub mod Faults
 pub mod Accepted

@@ -1,6 +1,6 @@
 -- The line that tells a fault of a trace.
 use Rattle.std.specs.Prelude.{ℕ, List, [], ◌∷◌, ◌++◌, codes, Option, Some, None}
-use Rattle.std.specs.Fmt.{decimal}
+use Rattle.surf_base.specs.Numbers.{labelled}
 use Rattle.trace_read.specs.declared.fault.TraceFault.{TraceFault}
 use Rattle.trace_read.specs.declared.fault.TraceFault.TheVariants.{Syntax, Number, TileRange, DomainUnknown, NotHosted, WordCount, Memory}
 
@@ -13,10 +13,6 @@ place_of (DomainUnknown line) = Some (4, line)
 place_of (NotHosted line) = Some (5, line)
 place_of (WordCount line) = Some (6, line)
 place_of (Memory refused) = None
-
--- a label, and a number in decimal
-abbrev pub labelled : List ℕ → ℕ → List ℕ
-labelled label n = label ++ decimal n
 
 abbrev pub told : Option (ℕ × ℕ) → List ℕ
 told None = codes "surf: no memory\n"

@@ -1,7 +1,8 @@
 //! The line that tells a fault.
 
 ghost use Rattle.std.specs.Prelude.{◌≡◌, ◌≤◌, ◌+◌, ◌++◌, length, take, IfSome};
-ghost use Rattle.trace_read.specs.Line.{place_of, labelled, told, line_of};
+ghost use Rattle.surf_base.specs.Numbers.{labelled};
+ghost use Rattle.trace_read.specs.Line.{place_of, told, line_of};
 
 use crate::fault::TraceFault;
 use surf_base::{put_at, put_number_at};

@@ -3,11 +3,10 @@
 ghost use Rattle.std.specs.Prelude.{◌≡◌, ◌==◌, ◌||◌, nat_lt, ◌<◌, ◌∷◌, [], ◌++◌, List, Bool, true, false, None, Some, map, drop, codes, IfOk, IfErr, OnOk, MatchOption, MatchResult, length};
 ghost use Rattle.std.specs.List.{cons_option};
 ghost use Rattle.std.specs.Str.{bytes_eq};
-ghost use Rattle.surf_base.specs.Numbers.{decimal_in};
+ghost use Rattle.surf_base.specs.Numbers.{decimal_in, hex_in};
 ghost use Rattle.noc_model.specs.Plan.{Plan as PlanValue};
 ghost use Rattle.trace_read.specs.declared.fault.TraceFault.{TraceFault};
 ghost use Rattle.trace_read.specs.Text.{fields};
-ghost use Rattle.trace_read.specs.Hex.{hex_in};
 ghost use Rattle.trace_read.specs.Entries.{is_skipped, is_send, number, word_of, domain_named, attach_named, entry_of, line_entry};
 ghost use Rattle.trace_read.specs.Faults.{has_no_word, first_of, place_faults, field_faults, all_faults, line_fault};
 ghost use Rattle.trace_read.specs.Accepted.{MemoryOr};

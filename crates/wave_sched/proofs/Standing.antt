@@ -8,11 +8,12 @@ use Rattle.std.proofs.lemmas.List.Elements.{All-map}
 use Rattle.noc_model.specs.Plan.{Plan, ports}
 use Rattle.noc_model.specs.Place.{neighbour, opposite, owner, next_in, modulo, slot_of, way_of}
 use Rattle.noc_model.proofs.Modulo.{modulo-next}
+use Rattle.noc_model.proofs.Ports.{linked-port}
 use Rattle.wave_sched.specs.declared.starts.PortSlots.{PortSlots}
 use Rattle.wave_sched.specs.declared.wheels.Wheel.{Wheel}
 use Rattle.wave_sched.specs.Starts.{port_slots, arriving_from, AreBelow}
 use Rattle.wave_sched.specs.Wheels.{Stands, wheel_ports}
-use Rattle.wave_sched.proofs.Turns.{slot-below, linked-port, owner-leaving, owner-arriving}
+use Rattle.wave_sched.proofs.Turns.{slot-below, owner-leaving, owner-arriving}
 
 -- a wheel has the ports of its plan
 pub wheel_ports-is : (w : Wheel) (p : Plan) (n t : ℕ) → Stands w p n t → wheel_ports w ≡ ports p

@@ -1,12 +1,12 @@
 -- The slots of cycle 0, and how they turn.
-use Rattle.std.proofs.Common.{◌≡◌, ◌≢◌, ℕ, zero, suc, ◌+◌, ◌-◌, ◌*◌, ◌/◌, ◌%◌, ◌<◌, length, refl, sym, ◌∙◌, ap, arith, if◌then◌else◌, ◌==◌}
-use Rattle.std.specs.Prelude.{Some, ℤ, pos, negsuc, ◌+ℤ◌, ◌-ℤ◌, slice_index}
+use Rattle.std.proofs.Common.{◌≡◌, ◌≢◌, ℕ, zero, suc, ◌+◌, ◌-◌, ◌*◌, ◌/◌, ◌%◌, ◌<◌, length, refl, sym, ◌∙◌, ap, arith, Bool, true, false, if◌then◌else◌, ◌==◌}
+use Rattle.std.specs.Prelude.{ℤ, pos, negsuc, ◌+ℤ◌, ◌-ℤ◌, slice_index}
 use Rattle.std.proofs.Math.Nat.{mod-eq_of_lt, mod-add-div, mod-lt}
 use Rattle.std.proofs.lemmas.Int.{ints}
 use Rattle.noc_model.specs.Plan.{Plan, hop}
-use Rattle.noc_model.specs.Place.{modulo, next_in, neighbour, slot_of, Way, Local, Plus, Minus, way_of, port_of, opposite_way, opposite, wave, owner}
+use Rattle.noc_model.specs.Place.{modulo, next_in, slot_of, Way, Local, Plus, Minus, way_of, opposite, wave, owner}
 use Rattle.noc_model.proofs.Modulo.{modulo-next}
-use Rattle.noc_model.proofs.Wave.{way_of-port_of, port_of-way_of}
+use Rattle.noc_model.proofs.Ports.{way-linked, opposite-by, opposite-linked}
 use Rattle.wave_sched.proofs.Slots.{same-mod, modulo-earlier}
 
 pub modulo-below : (k : ℕ) (z : ℤ) → 0 < k → modulo z k < k
@@ -48,46 +48,13 @@ slot-below p n z Local some = some
 slot-below p n z (Plus i) some = modulo-below (length p.slots) (z -ℤ pos (hop p * wave p n)) some
 slot-below p n z (Minus i) some = modulo-below (length p.slots) (z +ℤ pos (hop p * wave p n)) some
 
--- ---- ways
-
-pub linked-port : (p : Plan) (n port m : ℕ) → neighbour p n port ≡ Some m → port ≢ 0
-unfolding neighbour
-linked-port p n zero m e = absurd (cc e)
-linked-port p n (suc k) m e = λ z. omega arith
-
-pub way-linked : (port : ℕ) → port ≢ 0 → way_of port ≢ Local
-way-linked port link e = link (sym (port_of-way_of port) ∙ ap port_of e)
-
-pub opposite-is : (port : ℕ) → way_of (opposite port) ≡ opposite_way (way_of port)
-unfolding opposite
-opposite-is port = way_of-port_of (opposite_way (way_of port))
-
-opposite-local : (w : Way) → opposite_way w ≡ Local → w ≡ Local
-opposite-local Local e = refl
-opposite-local (Plus i) e = absurd (cc e)
-opposite-local (Minus i) e = absurd (cc e)
-
-pub opposite-linked : (port : ℕ) → port ≢ 0 → way_of (opposite port) ≢ Local
-opposite-linked port link e = way-linked port link (opposite-local (way_of port) (sym (opposite-is port) ∙ e))
-
--- odd ports are plus, and even ones minus, and a slot is one for all dimensions
-pub slot-leaving : (p : Plan) (n port : ℕ) (z : ℤ) → port ≢ 0 → slot_of p n z (if port % 2 == 1 then Plus 0 else Minus 0) ≡ slot_of p n z (way_of port)
-slot-leaving p n zero z link = absurd (link refl)
-slot-leaving p n (suc m) z link = go (m % 2) refl (omega arith)
-  where
-    go : (r : ℕ) → m % 2 ≡ r → r < 2 → slot_of p n z (if suc m % 2 == 1 then Plus 0 else Minus 0) ≡ slot_of p n z (if r == 0 then Plus (m / 2) else Minus (m / 2))
-    go zero e h = let odd : suc m % 2 ≡ 1 = omega arith in rw odd refl
-    go (suc zero) e h = let even : suc m % 2 ≡ 0 = omega arith in rw even refl
-    go (suc (suc r)) e h = absurd (omega arith)
+-- a slot is one for all dimensions
+slot-flat : (p : Plan) (n i : ℕ) (z : ℤ) (b : Bool) → slot_of p n z (if b then Plus 0 else Minus 0) ≡ slot_of p n z (if b then Plus i else Minus i)
+slot-flat p n i z true = refl
+slot-flat p n i z false = refl
 
 pub slot-arriving : (p : Plan) (n port : ℕ) (z : ℤ) → port ≢ 0 → slot_of p n z (if port % 2 == 0 then Plus 0 else Minus 0) ≡ slot_of p n z (way_of (opposite port))
-slot-arriving p n zero z link = absurd (link refl)
-slot-arriving p n (suc m) z link = go (m % 2) refl (omega arith) ∙ ap (slot_of p n z) (sym (opposite-is (suc m)))
-  where
-    go : (r : ℕ) → m % 2 ≡ r → r < 2 → slot_of p n z (if suc m % 2 == 0 then Plus 0 else Minus 0) ≡ slot_of p n z (opposite_way (if r == 0 then Plus (m / 2) else Minus (m / 2)))
-    go zero e h = let odd : suc m % 2 ≡ 1 = omega arith in rw odd refl
-    go (suc zero) e h = let even : suc m % 2 ≡ 0 = omega arith in rw even refl
-    go (suc (suc r)) e h = absurd (omega arith)
+slot-arriving p n port z link = slot-flat p n ((port - 1) / 2) z (port % 2 == 0) ∙ ap (slot_of p n z) (sym (opposite-by port link))
 
 -- ---- the slots before cycle 0, by natural numbers
 

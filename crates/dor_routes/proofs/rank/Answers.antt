@@ -1,6 +1,7 @@
 use Rattle.std.proofs.Common.{◌≤◌, ◌<◌, ◌+◌, ◌*◌, ◌-◌, ◌/◌, ℕ, ap, ◌∙◌, arith}
 use Rattle.noc_model.specs.Place.{position}
-use Rattle.dor_routes.proofs.Ways.{link-port, link-dim, rank-at, few-classes}
+use Rattle.noc_model.proofs.Ports.{link-port, link-dim}
+use Rattle.dor_routes.proofs.Ways.{rank-at, few-classes}
 use Rattle.dor_routes.proofs.rank.Goals as goal
 
 pub overflow_sub-i : goal.overflow_sub-i

@@ -1,7 +1,8 @@
 use Rattle.std.proofs.Common.{◌≡◌, ◌<◌, ◌+◌, length, sym, ◌∙◌, arith, refl, below_more}
 use Rattle.noc_model.specs.Place.{route, coord, coords_in}
 use Rattle.noc_model.proofs.Plans.{side-at}
-use Rattle.dor_routes.proofs.Ways.{way-differs, way-same, length-coords}
+use Rattle.noc_model.proofs.Coords.{length-coords}
+use Rattle.dor_routes.proofs.Ways.{way-differs, way-same}
 use Rattle.dor_routes.proofs.route.Goals as goal
 
 pub returns-then-x-y-clause-value : goal.returns-then-x-y-clause-value

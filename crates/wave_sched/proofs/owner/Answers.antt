@@ -1,7 +1,8 @@
 use Rattle.std.proofs.Common.{◌<◌, arith, ◌∙◌, ap, length}
 use Rattle.std.specs.Prelude.{slice_index}
 use Rattle.noc_model.specs.Place.{owner}
-use Rattle.wave_sched.proofs.Slots.{owned-odd, owned-even, link-port}
+use Rattle.noc_model.proofs.Ports.{link-port}
+use Rattle.wave_sched.proofs.Slots.{owned-odd, owned-even}
 use Rattle.wave_sched.proofs.owner.Goals as goal
 use Rattle.wave_sched.proofs.owner.Goals.{then-port-eq1, else-port-eq1}
 

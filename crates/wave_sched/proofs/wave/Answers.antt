@@ -3,8 +3,8 @@ use Rattle.std.specs.Prelude.{sum_by}
 use Rattle.std.proofs.lemmas.List.{take_all}
 use Rattle.std.proofs.lemmas.List.Sums.{sum_by_more}
 use Rattle.noc_model.specs.Place.{coord, coords_in, wave}
+use Rattle.noc_model.proofs.Coords.{length-coords}
 use Rattle.noc_model.proofs.Plans.{side-few}
-use Rattle.wave_sched.proofs.Slots.{length-coords}
 use Rattle.wave_sched.proofs.wave.Goals as goal
 
 pub overflow_add-sum : goal.overflow_add-sum

@@ -1,5 +1,5 @@
-use Rattle.std.proofs.Common.{◌<◌, arith}
-use Rattle.dor_routes.proofs.Chained.{RankRises, along-rises, chain-rises}
+use Rattle.std.proofs.Common.{arith}
+use Rattle.dor_routes.proofs.Chained.{along-rises, chain-rises}
 use Rattle.dor_routes.proofs.laws.no_circle.Goals as goal
 
 pub returns-clause-along : goal.returns-clause-along

@@ -1,4 +1,4 @@
-use Rattle.surf_base.proofs.Decimals.{decimal_in-is}
+use Rattle.surf_base.proofs.Numerals.{decimal_in-is}
 use Rattle.surf_base.proofs.numbers.read_decimal.Goals as goal
 
 pub returns-clause-computed : goal.returns-clause-computed

@@ -2,7 +2,8 @@ use Rattle.std.proofs.Common.{◌≡◌, ◌%◌, ◌==◌, if◌then◌else◌,
 use Rattle.std.specs.Prelude.{Some, pos, ◌-ℤ◌}
 use Rattle.noc_model.specs.Place.{neighbour, slot_of, Plus, Minus}
 use Rattle.wave_sched.specs.Starts.{arriving_from}
-use Rattle.wave_sched.proofs.Turns.{linked-port, slot-arriving}
+use Rattle.noc_model.proofs.Ports.{linked-port}
+use Rattle.wave_sched.proofs.Turns.{slot-arriving}
 use Rattle.wave_sched.proofs.starts.arriving_slot.Goals as goal
 
 pub returns-in-Some : goal.returns-in-Some

@@ -1,4 +1,4 @@
-use Rattle.std.proofs.Common.{◌∙◌, sym, ap}
+use Rattle.std.proofs.Common.{◌∙◌, sym}
 use Rattle.surf_base.proofs.Blocks.{BreaksOff-within}
 use Rattle.surf_base.proofs.block.Block.flush.Goals as goal
 
