@@ -1,13 +1,13 @@
 -- Files that are read one after another.
-use Rattle.std.proofs.Common.{◌⊎◌, inl, inr, ◌≡◌, ◌≢◌, ℕ, ◌+◌, ◌<◌, ◌≤◌, Bool, true, false, List, [], ◌∷◌, length, refl, sym, ap, ◌∙◌, subst, arith, if◌then◌else◌}
-use Rattle.std.specs.Prelude.{Some, None, nat_le}
+use Rattle.std.proofs.Common.{◌⊎◌, inl, inr, ◌≡◌, ◌≢◌, ℕ, ◌+◌, ◌<◌, ◌≤◌, true, false, List, [], ◌∷◌, length, refl, sym, ap, ◌∙◌, subst, arith, if◌then◌else◌}
+use Rattle.std.specs.Prelude.{nat_le}
 use Rattle.std.proofs.lemmas.Bool.Decides.{nat_tests}
 use Rattle.surf_base.specs.Outside.{Held, Untold, Absent, Holds, Rose}
 use Rattle.surf_cli.specs.declared.statuses.End.{End}
 use Rattle.surf_cli.specs.declared.statuses.End.TheVariants.{Good, Usage, Description, NotBuilt, Trace, Read, Write, Memory, TooLong}
 use Rattle.surf_cli.specs.Commands.{Command, Schedule, Check, Routes, Simulate, NamedFile, files_of}
 use Rattle.surf_cli.specs.Meaning.{Outcome, refused, with_file, with_files, content}
-use Rattle.surf_cli.specs.Runs.{IsMeant, TellsAll, NamesAbsent, PassesLimit, WithinLast, AreLimited, GotFiles, Stopped, GotNone}
+use Rattle.surf_cli.specs.Runs.{IsMeant, TellsAll, NamesAbsent, WithinLast, AreLimited, GotFiles, Stopped, GotNone}
 
 -- the files of a command can be counted
 pub files-limited : (c : Command) → AreLimited (files_of c)

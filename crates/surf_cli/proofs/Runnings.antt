@@ -1,6 +1,6 @@
 -- A run, from what was read and what was written.
-use Rattle.std.proofs.Common.{◌⊎◌, inl, inr, ◌≡◌, ◌≢◌, ℕ, ◌≤◌, List, refl, sym, ap, ◌∙◌, subst, arith}
-use Rattle.std.specs.Prelude.{Option, Some, None}
+use Rattle.std.proofs.Common.{◌⊎◌, inl, inr, ◌≡◌, ◌≢◌, ℕ, List, refl, sym, ap, ◌∙◌, subst, arith}
+use Rattle.std.specs.Prelude.{Option, Some}
 use Rattle.surf_base.specs.Outside.{Held, Rose, appended, GotPrefix}
 use Rattle.surf_cli.specs.declared.statuses.End.{End}
 use Rattle.surf_cli.specs.declared.statuses.End.TheVariants.{Good, Usage, Description, NotBuilt, Trace, Read, Write, Memory, TooLong}
@@ -9,7 +9,7 @@ use Rattle.surf_cli.specs.Lines.{status_of}
 use Rattle.surf_cli.specs.declared.statuses.Status.TheVariants as status
 use Rattle.surf_cli.specs.Meaning.{meaning, Outcome, done, refused, over_contents}
 use Rattle.surf_cli.specs.Runs.{Outside, Runs, HasCause, WritesOut, IsMeant, Sends, TellsAll, WithinLast, Stopped, GotFiles, GotNone, IsRefusal}
-use Rattle.surf_cli.specs.Loaded.{IsRefused, AnswersContents}
+use Rattle.surf_cli.specs.Loaded.{AnswersContents}
 
 -- ---- what was read is answered
 

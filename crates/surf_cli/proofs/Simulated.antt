@@ -1,9 +1,8 @@
 -- The events of a run that a whole trace drives are those of each domain's own entries.
-use Rattle.std.proofs.Common.{◌≡◌, ◌<◌, ◌==◌, ℕ, Bool, true, List, length, filter, refl, sym, ap, ◌∙◌, subst, arith, Result, Ok, Err, IfOk}
-use Rattle.std.specs.Prelude.{slice_get, Option, Some}
+use Rattle.std.proofs.Common.{◌≡◌, ◌<◌, ◌==◌, ℕ, true, List, length, filter, refl, sym, ap, ◌∙◌, subst, arith, Result, Ok, Err, IfOk}
+use Rattle.std.specs.Prelude.{slice_get}
 use Rattle.std.proofs.lemmas.Bool.Decides.{nat_tests}
 use Rattle.noc_model.specs.declared.Event.{Event}
-use Rattle.noc_model.specs.declared.Host.{Host}
 use Rattle.noc_model.specs.declared.Ejected.{Ejected}
 use Rattle.noc_model.specs.Plan.{Plan}
 use Rattle.noc_model.specs.Run.{start}

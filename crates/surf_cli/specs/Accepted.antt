@@ -1,10 +1,7 @@
 -- The line that says what an accepted description describes.
-use Rattle.std.specs.Prelude.{ℕ, List, [], ◌∷◌, ◌++◌, length, codes, decimal}
+use Rattle.std.specs.Prelude.{ℕ, List, [], ◌∷◌, ◌++◌, length, codes}
+use Rattle.surf_base.specs.Numbers.{labelled}
 use Rattle.noc_model.specs.Plan.{Plan, tiles, places, hop}
-
--- a label, and a number in decimal
-abbrev pub labelled : List ℕ → ℕ → List ℕ
-labelled label n = label ++ decimal n
 
 -- from the hop on, from the places on, from the domains on
 abbrev pub hop_text : Plan → List ℕ

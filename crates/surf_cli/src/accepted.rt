@@ -2,35 +2,17 @@
 
 ghost use Rattle.std.specs.Prelude.{◌≡◌};
 ghost use Rattle.surf_base.specs.Block.{Writes, stream};
-ghost use Rattle.surf_cli.specs.Accepted.{labelled, hop_text, places_text, domains_text, accepted_text};
+ghost use Rattle.surf_cli.specs.Accepted.{hop_text, places_text, domains_text, accepted_text};
 
 use noc_model::Plan;
-use surf_base::{Block, Failed, Sink, decimal};
-
-/// Puts a label, and a number in decimal.
-fn put_labelled<O: Sink>(
-    block: &mut Block,
-    out: &mut O,
-    label: &str,
-    value: u32,
-) -> Result<(), Failed>
-    ensures { Writes result (stream (O.written out.old) block.old (O.faults out.old))
-        (stream (O.written out.new) block.new (O.faults out.new)) (labelled label.now value) }
-{
-    let mut digits = [0; 20];
-    let len = decimal(u64::from(value), &mut digits);
-    match block.put(out, label.as_bytes()) {
-        Ok(()) => block.put(out, &digits[..len]),
-        Err(fault) => Err(fault),
-    }
-}
+use surf_base::{Block, Failed, Sink};
 
 /// Puts the line from the hop on.
 fn put_hop<O: Sink>(block: &mut Block, out: &mut O, plan: &Plan) -> Result<(), Failed>
     ensures { Writes result (stream (O.written out.old) block.old (O.faults out.old))
         (stream (O.written out.new) block.new (O.faults out.new)) (hop_text plan.now) }
 {
-    match put_labelled(block, out, " hop ", plan.hop()) {
+    match block.put_labelled(out, b" hop ", u64::from(plan.hop())) {
         Ok(()) => block.put(out, b"\n"),
         Err(fault) => Err(fault),
     }
@@ -41,7 +23,7 @@ fn put_places<O: Sink>(block: &mut Block, out: &mut O, plan: &Plan) -> Result<()
     ensures { Writes result (stream (O.written out.old) block.old (O.faults out.old))
         (stream (O.written out.new) block.new (O.faults out.new)) (places_text plan.now) }
 {
-    match put_labelled(block, out, " places ", plan.places()) {
+    match block.put_labelled(out, b" places ", u64::from(plan.places())) {
         Ok(()) => put_hop(block, out, plan),
         Err(fault) => Err(fault),
     }
@@ -52,7 +34,7 @@ fn put_domains<O: Sink>(block: &mut Block, out: &mut O, plan: &Plan) -> Result<(
     ensures { Writes result (stream (O.written out.old) block.old (O.faults out.old))
         (stream (O.written out.new) block.new (O.faults out.new)) (domains_text plan.now) }
 {
-    match put_labelled(block, out, " domains ", plan.domains()) {
+    match block.put_labelled(out, b" domains ", u64::from(plan.domains())) {
         Ok(()) => put_places(block, out, plan),
         Err(fault) => Err(fault),
     }
@@ -67,7 +49,7 @@ pub(crate) fn put_accepted<O: Sink>(
     ensures { Writes result (stream (O.written out.old) block.old (O.faults out.old))
         (stream (O.written out.new) block.new (O.faults out.new)) (accepted_text plan.now) }
 {
-    match put_labelled(block, out, "accepted tiles ", plan.tiles()) {
+    match block.put_labelled(out, b"accepted tiles ", u64::from(plan.tiles())) {
         Ok(()) => put_domains(block, out, plan),
         Err(fault) => Err(fault),
     }

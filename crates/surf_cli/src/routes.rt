@@ -1,25 +1,15 @@
 //! The table of routes: a line for each way from a tile to a tile.
 
-ghost use Rattle.std.specs.Prelude.{◌≡◌, ◌<◌, ◌++◌, ◌∷◌, [], length, decimal};
+ghost use Rattle.std.specs.Prelude.{◌<◌, ◌++◌, length};
 ghost use Rattle.surf_base.specs.Block.{Writes, stream};
 ghost use Rattle.noc_model.specs.Plan.{tiles};
 ghost use Rattle.surf_cli.specs.Schedule.{field};
 ghost use Rattle.surf_cli.specs.Routes.{way_text, route_line, route_text, routes_from, routes_text};
 
-use crate::table::{put_field, put_name};
+use crate::table::put_field;
 use dor_routes::{class_after, route};
 use noc_model::Plan;
-use surf_base::{Block, Failed, Sink, decimal};
-
-/// Puts a number in decimal, and ends the line.
-fn put_last<O: Sink>(block: &mut Block, out: &mut O, value: u32) -> Result<(), Failed>
-    ensures { Writes result (stream (O.written out.old) block.old (O.faults out.old))
-        (stream (O.written out.new) block.new (O.faults out.new)) (decimal value ++ 10 ∷ []) }
-{
-    let mut digits = [0; 20];
-    let len = decimal(u64::from(value), &mut digits);
-    put_name(block, out, &digits[..len])
-}
+use surf_base::{Block, Failed, Sink};
 
 /// Puts the rest of a line from the port on.
 fn put_way<O: Sink>(block: &mut Block, out: &mut O, port: u32, class: u32) -> Result<(), Failed>
@@ -27,7 +17,7 @@ fn put_way<O: Sink>(block: &mut Block, out: &mut O, port: u32, class: u32) -> Re
         (stream (O.written out.new) block.new (O.faults out.new)) (way_text port class) }
 {
     match put_field(block, out, port) {
-        Ok(()) => put_last(block, out, class),
+        Ok(()) => block.put_number_then(out, u64::from(class), b'\n'),
         Err(fault) => Err(fault),
     }
 }

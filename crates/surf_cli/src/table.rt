@@ -10,7 +10,7 @@ ghost use Rattle.surf_cli.specs.Schedule.{field, owner_line, link_text, port_tex
 
 use crate::turning::tick_all;
 use noc_model::Plan;
-use surf_base::{Block, Failed, Sink, decimal};
+use surf_base::{Block, Failed, Sink};
 use wave_sched::Wheel;
 
 /// Puts a number in decimal, and a blank.
@@ -18,16 +18,11 @@ pub(crate) fn put_field<O: Sink>(block: &mut Block, out: &mut O, value: u32) -> 
     ensures { Writes result (stream (O.written out.old) block.old (O.faults out.old))
         (stream (O.written out.new) block.new (O.faults out.new)) (field value) }
 {
-    let mut digits = [0; 20];
-    let len = decimal(u64::from(value), &mut digits);
-    match block.put(out, &digits[..len]) {
-        Ok(()) => block.put(out, b" "),
-        Err(fault) => Err(fault),
-    }
+    block.put_number_then(out, u64::from(value), b' ')
 }
 
 /// Puts the owner's name, and ends the line.
-pub(crate) fn put_name<O: Sink>(block: &mut Block, out: &mut O, name: &[u8]) -> Result<(), Failed>
+fn put_name<O: Sink>(block: &mut Block, out: &mut O, name: &[u8]) -> Result<(), Failed>
     ensures { Writes result (stream (O.written out.old) block.old (O.faults out.old))
         (stream (O.written out.new) block.new (O.faults out.new)) (name.now ++ 10 ∷ []) }
 {

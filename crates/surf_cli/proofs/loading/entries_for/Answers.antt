@@ -1,7 +1,6 @@
-use Rattle.std.proofs.Common.{◌≡◌, map, ap, subst}
+use Rattle.std.proofs.Common.{◌≡◌, map, subst}
 use Rattle.std.specs.Prelude.{Some, vec_items}
 use Rattle.trace_read.specs.Accepted.{trace_of}
-use Rattle.surf_cli.specs.Loaded.{Answers}
 use Rattle.surf_cli.proofs.Simulated.{if-so}
 use Rattle.surf_cli.proofs.Loadings.{simulated}
 use Rattle.surf_cli.proofs.loading.entries_for.Goals as goal

@@ -1,6 +1,4 @@
-use Rattle.std.proofs.Common.{length, ◌≡◌, ◌<◌, [], ◌∷◌, map, vec_items, IfOk, IfErr, ℕ, ◌+◌, ◌-◌, ◌*◌, ◌≤◌}
-use Rattle.surf_cli.specs.Spoken.{named}
-use Rattle.surf_cli.specs.Runs.{AreLimited, GotFiles, GotNone}
+use Rattle.std.proofs.Common.{length}
 use Rattle.surf_cli.proofs.reading.+read_files.Given as goal
 
 -- proposed from what the function passes where it calls itself

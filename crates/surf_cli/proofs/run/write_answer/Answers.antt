@@ -1,6 +1,6 @@
 use Rattle.surf_cli.specs.Meaning.{answer_text}
 use Rattle.surf_cli.specs.Spoken.{command}
-use Rattle.surf_cli.proofs.Ended.{GotPrefix-broken, GotPrefix-last, appended-flushed}
+use Rattle.surf_cli.proofs.Ended.{GotPrefix-broken, GotPrefix-last}
 use Rattle.surf_cli.proofs.run.write_answer.Goals as goal
 
 pub returns-in-Ok-put_answer : goal.returns-in-Ok-put_answer
