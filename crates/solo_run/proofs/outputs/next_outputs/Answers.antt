@@ -1,0 +1,16 @@
+use Rattle.std.proofs.Common.{◌/◌, ◌%◌, ◌∙◌}
+use Rattle.noc_model.specs.Plan.{lanes}
+use Rattle.noc_model.specs.Tile.{Tile}
+use Rattle.solo_run.specs.Solo.{tile_of, in_of}
+use Rattle.solo_run.specs.Parts.{stepped, output_in}
+use Rattle.solo_run.proofs.Tables.{table-more, spot-is}
+use Rattle.solo_run.proofs.outputs.next_outputs.Goals as goal
+
+pub loop-k-preserved : goal.loop-k-preserved
+loop-k-preserved c =
+    let p = c.args.plan.now in
+    let d = c.args.here.domain in
+    let s : Tile = stepped p c.args.here (tile_of p d c.args.tile.now) (in_of p d c.args.fed.now) in
+    table-more (λ k. output_in s (k / lanes p d) (k % lanes p d)) c.loop-k.outputs.items c.push.new.self.items c.loop-k.k c.next_output.result c.loop-k.invariant c.in_ok-push.ensures.items
+    (c.next_output.ensures
+    ∙ spot-is (output_in s) c.loop-k.k c.lanes-width.result (lanes p d) c.spot_of-at.result.port c.spot_of-at.result.entry c.lanes-width.ensures.value c.spot_of-at.ensures.port c.spot_of-at.ensures.entry)

@@ -1,0 +1,4 @@
+pub mod Channel
+pub mod Solo
+pub mod Parts
+pub mod Same
