@@ -31,7 +31,7 @@ arrival-none : (p : Plan) (s : State) (n port : ℕ) → neighbour p n port ≡ 
 unfolding arrival
 arrival-none p s n port none = rw none refl
 
-fed-sound : (p : Plan) (d n : ℕ) (t : ℤ) (s : State) (x : Input) → ((m : ℕ) → IsSoundTile p d m t (s m)) → IsSoundIn p d n (fed p d s x n)
+pub fed-sound : (p : Plan) (d n : ℕ) (t : ℤ) (s : State) (x : Input) → ((m : ℕ) → IsSoundTile p d m t (s m)) → IsSoundIn p d n (fed p d s x n)
 fed-sound p d n t s x sound = record {
   arrives = λ port y e. arrival-home p d n port t s y sound e;
   unlinked = λ port none. arrival-none p s n port none;
@@ -66,7 +66,7 @@ start-sound p d n t some = record {
 }
 
 -- each domain has a channel
-some-channels : (p : Plan) (d : ℕ) → IsSound p → d < length p.domains → 0 < channels p d
+pub some-channels : (p : Plan) (d : ℕ) → IsSound p → d < length p.domains → 0 < channels p d
 some-channels p d sound there =
     let x : DomainPart = record { name = []; channels = 0 } in
     rw (slice_get-get_or p.domains d x there) (sound.channels d x there).0

@@ -1,10 +1,10 @@
 -- The classes and channels in which packets go on are there.
-use Rattle.std.proofs.Common.{◌≡◌, ℕ, zero, suc, ◌+◌, ◌*◌, ◌/◌, ◌<◌, ◌≤◌, Bool, true, false, arith, mul_comm, lit≤, lit<, ◌&&◌}
-use Rattle.std.specs.Prelude.{nat_lt, if◌then◌else◌}
+use Rattle.std.proofs.Common.{ℕ, zero, suc, ◌+◌, ◌*◌, ◌/◌, ◌<◌, ◌≤◌, Bool, true, false, arith, mul_comm, lit≤}
+use Rattle.std.specs.Prelude.{if◌then◌else◌}
 use Rattle.std.proofs.lemmas.Nat.{div_below, mul-add-lt}
 use Rattle.noc_model.specs.Plan.{Plan, channels, lanes, classes, at_local, in_channels}
-use Rattle.noc_model.specs.Place.{Way, Local, Plus, Minus, way_of, side, coord, class_after, is_wrap, is_wrap_way, is_same_dim, are_edges, next_in, last_in}
 use Rattle.noc_model.specs.Step.{class_of}
+use Rattle.noc_model.proofs.Outputs.{class-few}
 
 pub some-classes : (p : Plan) → 1 ≤ classes p
 some-classes p = go p.torus
@@ -13,31 +13,10 @@ some-classes p = go p.torus
     go true = lit≤ tt
     go false = lit≤ tt
 
-class-below : (torus wrap same : Bool) (c : ℕ) → (wrap ≡ true → torus ≡ true) → c < (if torus then 2 else 1) → 1 ≤ (if torus then 2 else 1)
-    → (if wrap then 1 else (if same then c else 0)) < (if torus then 2 else 1)
-class-below true true same c h low some = lit< tt
-class-below false true same c h low some = absurd (let bad = h refl' in cc)
-  where
-    refl' : true ≡ true
-    refl' = cc
-class-below torus false true c h low some = low
-class-below torus false false c h low some = omega arith
-
-and-first : (a b : Bool) → (a && b) ≡ true → a ≡ true
-and-first true b e = cc
-and-first false b e = absurd (cc e)
-
-wrap-torus : (p : Plan) (n : ℕ) (w : Way) → is_wrap_way p n w ≡ true → p.torus ≡ true
-wrap-torus p n Local e = absurd (cc e)
-wrap-torus p n (Plus i) e = and-first p.torus (nat_lt 1 (side p i) && are_edges (side p i) (coord p n i) (next_in (side p i) (coord p n i))) e
-wrap-torus p n (Minus i) e = and-first p.torus (nat_lt 1 (side p i) && are_edges (side p i) (coord p n i) (last_in (side p i) (coord p n i))) e
-
 -- a packet goes on in a class that is there
 pub class-there : (p : Plan) (d n port c o : ℕ) → 1 ≤ channels p d → c < lanes p d → class_of p d n port c o < classes p
-unfolding class_after is_wrap
 class-there p d n port c o some below =
-    class-below p.torus (is_wrap_way p n (way_of o)) (is_same_dim (way_of port) (way_of o)) (c / channels p d) (wrap-torus p n (way_of o))
-    (let less : 0 < channels p d = omega arith in div_below c (channels p d) (classes p) less below) (some-classes p)
+    class-few p n port (c / channels p d) o (let less : 0 < channels p d = omega arith in div_below c (channels p d) (classes p) less below)
 
 -- the channels of a class at an output are channels of the class
 pub width-within : (o k j : ℕ) → 1 ≤ k → j < at_local o 1 k → j < k

@@ -2,7 +2,7 @@
 use Rattle.std.proofs.Common.{◌≡◌, ◌≢◌, ℕ, ◌+◌, ◌-◌, ◌%◌, ◌==◌, true, false, refl, arith}
 use Rattle.std.proofs.lemmas.Bool.Decides.{nat_tests}
 use Rattle.noc_model.specs.Place.{opposite}
-use Rattle.dor_routes.proofs.Ways.{way-by}
+use Rattle.noc_model.proofs.Ports.{way-by}
 
 pub opposite-local : (port : ℕ) → port ≡ 0 → 0 ≡ opposite port
 unfolding opposite

@@ -6,7 +6,7 @@ use Rattle.noc_model.specs.declared.Stage.TheVariants.{Routed}
 use Rattle.noc_model.specs.Plan.{Plan, ports}
 use Rattle.noc_model.specs.Place.{neighbour}
 use Rattle.noc_model.specs.SoundState.{IsOutput, HasOutput}
-use Rattle.dor_routes.proofs.Ways.{link-port, link-dim}
+use Rattle.noc_model.proofs.Ports.{link-port, link-dim}
 
 -- a port with a link is one of the ports
 pub link-below : (p : Plan) (n o : ℕ) → is_some (neighbour p n o) ≡ true → o < ports p

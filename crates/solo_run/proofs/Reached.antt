@@ -7,7 +7,6 @@ use Rattle.std.proofs.lemmas.List.Elements.{All-nil}
 use Rattle.noc_model.specs.declared.Event.{Event}
 use Rattle.noc_model.specs.declared.Flit.{Flit}
 use Rattle.noc_model.specs.declared.Host.{Host}
-use Rattle.noc_model.specs.declared.LinkFlit.{LinkFlit}
 use Rattle.noc_model.specs.Plan.{Plan, tiles, ports, lanes, channels, hosts}
 use Rattle.noc_model.specs.Sound.{IsSound}
 use Rattle.noc_model.specs.Place.{neighbour, opposite}
@@ -20,8 +19,8 @@ use Rattle.noc_model.specs.Driver.{Driver, driven, driven_events, after_taken, a
 use Rattle.noc_model.proofs.Coords.{positive}
 use Rattle.noc_model.proofs.Links.{link-from}
 use Rattle.noc_model.proofs.StateKept.{neighbour-inside}
-use Rattle.noc_model.proofs.Switch.{then-is}
-use Rattle.noc_model.proofs.TileKept.{IsSoundIn, tile_step-sound}
+use Rattle.noc_model.proofs.TileKept.{tile_step-sound}
+use Rattle.noc_model.proofs.StateKept.{fed-sound}
 use Rattle.solo_run.specs.Channel.{InChannel}
 use Rattle.solo_run.specs.Parts.{IsFit}
 use Rattle.solo_run.specs.Same.{IsSame, IsSameIn}
@@ -53,22 +52,6 @@ kept-fits p d t n a s sound kept same inside =
     }
 
 -- ---- what is kept
-
-arrival-home : (p : Plan) (d n port : ℕ) (t : ℤ) (s : State) (x : LinkFlit) → ((m : ℕ) → IsSoundTile p d m t (s m)) → arrival p s n port ≡ Some x → GoesHome p d x.flit
-unfolding arrival
-arrival-home p d n port t s x sound e =
-    let from = then-is (λ m. last_place p (s m) (opposite port)) (neighbour p n port) x e in
-    (sound from.0).on_link (opposite port) (p.stages - 1) x from.2
-
-arrival-none : (p : Plan) (s : State) (n port : ℕ) → neighbour p n port ≡ None → arrival p s n port ≡ None
-unfolding arrival
-arrival-none p s n port none = rw none refl
-
-fed-sound : (p : Plan) (d n : ℕ) (t : ℤ) (s : State) (x : Input) → ((m : ℕ) → IsSoundTile p d m t (s m)) → IsSoundIn p d n (fed p d s x n)
-fed-sound p d n t s x sound = record {
-  arrives = λ port y e. arrival-home p d n port t s y sound e;
-  unlinked = λ port none. arrival-none p s n port none;
-}
 
 one-few : (b : Bool) → one_if b ≤ 1
 one-few true = omega arith

@@ -1,24 +1,17 @@
 -- A run, round by round, over the lists of the program.
 use Rattle.std.proofs.Common.{◌≡◌, ℕ, ◌+◌, ◌<◌, List, [], ◌++◌, length, sym, subst}
 use Rattle.std.specs.Prelude.{pos}
-use Rattle.std.proofs.lemmas.Option.{slice_get-get_or}
 use Rattle.noc_model.specs.declared.Event.{Event}
-use Rattle.noc_model.specs.declared.plan.DomainPart.{DomainPart}
-use Rattle.noc_model.specs.Plan.{Plan, tiles, channels}
+use Rattle.noc_model.specs.Plan.{Plan, tiles}
 use Rattle.noc_model.specs.Sound.{IsSound}
 use Rattle.noc_model.specs.Run.{State, start, step}
 use Rattle.noc_model.specs.Events.{cycle_events}
 use Rattle.noc_model.specs.Driver.{Driver, driven, next_states}
+use Rattle.noc_model.proofs.StateKept.{some-channels}
 use Rattle.solo_run.specs.Parts.{IsFit}
 use Rattle.solo_run.specs.Solo.{state_of}
 use Rattle.solo_run.specs.declared.tile.SoloTile.{SoloTile}
 use Rattle.solo_run.proofs.Reached.{AreSame, IsReached, kept-fits, reached-start, reached-next}
-
--- each domain has a channel
-some-channels : (p : Plan) (d : ℕ) → IsSound p → d < length p.domains → 0 < channels p d
-some-channels p d sound there =
-    let x : DomainPart = record { name = []; channels = 0 } in
-    rw (slice_get-get_or p.domains d x there) (sound.channels d x there).0
 
 -- the run has come to the start
 pub first-round : (p : Plan) (d : ℕ) (v : Driver) (cycles : ℕ) (first : ℕ → List ℕ) (events : List Event) (net : List SoloTile) → IsSound p → d < length p.domains
