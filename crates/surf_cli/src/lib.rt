@@ -2,7 +2,7 @@
 //!
 //! `surf` promises that a run's status and bytes are the meaning of its words and of what the named files hold, that each
 //! other status has its cause in the outside, and that nothing is written but whole answers or, where writing fails, a
-//! prefix of one. Which files and sinks these are is left to the program above.
+//! prefix of one. [`laws`] has that reports do not interfere. Which files and sinks these are is left to the program above.
 #![tactic(auto)]
 
 ghost use Rattle.std.specs.Prelude.{◌≡◌, ◌↔◌, ◌⊎◌, map, string_bytes, None};
@@ -13,6 +13,7 @@ ghost use Rattle.surf_cli.specs.Meaning.{meaning};
 ghost use Rattle.surf_cli.specs.Runs.{Ends, outside, TellsAll};
 
 mod accepted;
+pub mod laws;
 mod loading;
 mod reading;
 mod routes;
