@@ -5,5 +5,7 @@ pub mod Schedule
 pub mod Turning
 pub mod Accepted
 pub mod Routes
+pub mod Simulate
 pub mod Meaning
 pub mod Runs
+pub mod Loaded

@@ -13,8 +13,11 @@ ghost use Rattle.surf_cli.specs.Meaning.{meaning};
 ghost use Rattle.surf_cli.specs.Runs.{Ends, outside, TellsAll};
 
 mod accepted;
+mod loading;
+mod reading;
 mod routes;
 mod run;
+mod simulate;
 mod statuses;
 mod table;
 mod turning;

@@ -1,68 +1,30 @@
-//! A command's run: its file is read, judged and answered.
+//! A command's run: its files are read, judged and answered.
 
-ghost use Rattle.std.specs.Prelude.{◌≡◌, ◌≢◌, ◌≤◌, ◌⊎◌, List, ℕ, map, string_bytes, Some, None, Option, IfOk, IfErr};
-ghost use Rattle.surf_base.specs.Outside.{Rose, appended, GotPrefix};
+ghost use Rattle.std.specs.Prelude.{◌≡◌, ◌≢◌, ◌≤◌, ◌⊎◌, List, ℕ, map, string_bytes, vec_items, Some, None, Option, IfOk, IfErr};
 ghost use Rattle.surf_base.specs.Block.{Writes, stream};
-ghost use Rattle.noc_desc.specs.Draft.{IsMemory};
-ghost use Rattle.surf_cli.specs.Commands.{command_of};
+ghost use Rattle.trace_read.specs.declared.entries.Entry.{Entry};
+ghost use Rattle.surf_cli.specs.Commands.{command_of, files_of, HasFewCycles};
 ghost use Rattle.surf_cli.specs.Spoken.{command};
-ghost use Rattle.surf_cli.specs.Meaning.{judged, Described, answer_text};
+ghost use Rattle.surf_cli.specs.Meaning.{answer_text};
 ghost use Rattle.surf_cli.specs.Turning.{WheelsFor};
-ghost use Rattle.surf_cli.specs.Runs.{Runs, outside, WritesOut, GotPlan, GotNone, IsFaulty};
+ghost use Rattle.surf_cli.specs.Loaded.{BuiltFor, EventsFor, AnswersContents};
+ghost use Rattle.surf_cli.specs.Runs.{Runs, outside, WritesOut, GotFiles, GotNone};
 
 use crate::accepted::put_accepted;
+use crate::loading::load;
+use crate::reading::read_files;
 use crate::routes::put_routes;
+use crate::simulate::{put_reports, simulate};
 use crate::statuses::End;
 use crate::table::put_schedule;
 use crate::turning::wheels_of;
 use crate::words::{Request, request_of};
-use noc_desc::{DescFault, read_draft};
 use noc_model::Plan;
 use std::alloc::{AllocError, Global};
-use surf_base::{Block, Failed, Files, Sink, TakeFault, read_whole};
+use surf_base::{Block, Failed, Files, Sink};
+use tile_drive::Events;
+use trace_read::Trace;
 use wave_sched::Wheel;
-
-/// The most bytes of a description.
-const DESCRIPTION_LIMIT: u64 = 1_048_576;
-
-/// How a run ends that meets a fault of a description.
-fn end_of(fault: DescFault) -> End
-    ensures { (result ≡ End.Memory) ⊎ ((IsMemory fault → ⊥) × (result ≡ End.Description fault)) }
-{
-    match fault {
-        DescFault::Memory(_) => End::Memory,
-        other => End::Description(other),
-    }
-}
-
-/// The plan of a description.
-fn judge(alloc: Global, bytes: &[u8]) -> Result<Plan, End>
-    ensures ok { IfOk result (λ plan. judged bytes.now ≡ Described plan) }
-    ensures err { IfErr result (λ end. (end ≡ End.Memory) ⊎ IsFaulty bytes.now end) }
-{
-    let draft = match read_draft(alloc, bytes) {
-        Ok(draft) => draft,
-        Err(fault) => return Err(end_of(fault)),
-    };
-    match desc_check::check(alloc, draft) {
-        Ok(plan) => Ok(plan),
-        Err(fault) => Err(end_of(fault)),
-    }
-}
-
-/// The plan of a described network.
-fn read_plan<F: Files>(alloc: Global, description: &str, files: &mut F) -> Result<Plan, End>
-    ensures ok { IfOk result (λ plan. GotPlan description.now (F.held files.old) (F.held files.new) (F.faults files.old) (F.faults files.new) (F.taken files.new) plan) }
-    ensures err { IfErr result (λ end. GotNone description.now (F.held files.old) (F.held files.new) (F.faults files.old) (F.faults files.new) (F.taken files.new) end) }
-{
-    let bytes = match read_whole(alloc, files, description, DESCRIPTION_LIMIT) {
-        Ok(bytes) => bytes,
-        Err(TakeFault::Failed) => return Err(End::Read),
-        Err(TakeFault::TooLong) => return Err(End::TooLong),
-        Err(TakeFault::Memory(_)) => return Err(End::Memory),
-    };
-    judge(alloc, &bytes)
-}
 
 /// The wheels that the answer to a request needs.
 fn wheels_for(alloc: Global, plan: &Plan, request: Request<'_>) -> Result<Vec<Wheel>, AllocError>
@@ -70,8 +32,53 @@ fn wheels_for(alloc: Global, plan: &Plan, request: Request<'_>) -> Result<Vec<Wh
 {
     match request {
         Request::Schedule { .. } => wheels_of(alloc, plan),
-        Request::Check { .. } | Request::Routes { .. } => Ok(Vec::new(alloc)),
+        Request::Check { .. } | Request::Routes { .. } | Request::Simulate { .. } => {
+            Ok(Vec::new(alloc))
+        }
     }
+}
+
+/// The events that the answer to a request needs.
+fn events_for(
+    alloc: Global,
+    plan: &Plan,
+    trace: &Trace,
+    request: Request<'_>,
+) -> Result<Events, AllocError>
+    requires built { BuiltFor (command request) plan.now }
+    requires few { HasFewCycles (command request) }
+    ensures { IfOk result (λ events. EventsFor (command request.entry) events plan.now trace.now) }
+{
+    match request {
+        Request::Simulate { cycles, .. } => simulate(alloc, plan, trace, cycles),
+        Request::Schedule { .. } | Request::Check { .. } | Request::Routes { .. } => {
+            Ok(Events::new(alloc))
+        }
+    }
+}
+
+/// What is made before the first byte of an answer is written.
+#[derive(Drop)]
+struct Stock {
+    wheels: Vec<Wheel>,
+    events: Events,
+}
+
+/// All that the answer to a request needs.
+fn stock_for(
+    alloc: Global,
+    plan: &Plan,
+    trace: &Trace,
+    request: Request<'_>,
+) -> Result<Stock, AllocError>
+    requires built { BuiltFor (command request) plan.now }
+    requires few { HasFewCycles (command request) }
+    ensures wheels { IfOk result (λ stock. WheelsFor (command request.entry) stock.wheels.items plan.now) }
+    ensures events { IfOk result (λ stock. EventsFor (command request.entry) stock.events plan.now trace.now) }
+{
+    let wheels = wheels_for(alloc, plan, request)?;
+    let events = events_for(alloc, plan, trace, request)?;
+    Ok(Stock { wheels, events })
 }
 
 /// Puts the answer to a request over a plan.
@@ -80,38 +87,89 @@ fn put_answer<O: Sink>(
     out: &mut O,
     plan: &Plan,
     wheels: &mut [Wheel],
+    events: &Events,
     request: Request<'_>,
 ) -> Result<(), Failed>
-    requires { WheelsFor (command request) wheels.old plan.now }
-    ensures { Writes result (stream (O.written out.old) block.old (O.faults out.old))
-        (stream (O.written out.new) block.new (O.faults out.new)) (answer_text (command request.entry) plan.now) }
+    requires wheels { WheelsFor (command request) wheels.old plan.now }
+    ensures { (es : List Entry) → EventsFor (command request.entry) events.now plan.now es
+        → Writes result (stream (O.written out.old) block.old (O.faults out.old))
+        (stream (O.written out.new) block.new (O.faults out.new)) (answer_text (command request.entry) plan.now es) }
 {
     match request {
         Request::Schedule { cycles, .. } => put_schedule(block, out, plan, wheels, cycles),
         Request::Check { .. } => put_accepted(block, out, plan),
         Request::Routes { .. } => put_routes(block, out, plan),
+        Request::Simulate { .. } => put_reports(block, out, plan, events),
     }
 }
 
-/// Writes the answer to a request over a plan. All memory is taken before the first write.
-fn write_answer<O: Sink>(alloc: Global, plan: &Plan, request: Request<'_>, out: &mut O) -> End
-    ensures { WritesOut result (O.written out.old) (O.written out.new) (O.faults out.old) (O.faults out.new) (answer_text (command request.entry) plan.now) }
+/// Writes the answer to a request. All memory is taken before the first write.
+fn write_answer<O: Sink>(
+    alloc: Global,
+    plan: &Plan,
+    trace: &Trace,
+    request: Request<'_>,
+    out: &mut O,
+) -> End
+    requires built { BuiltFor (command request) plan.now }
+    requires few { HasFewCycles (command request) }
+    ensures { WritesOut result (O.written out.old) (O.written out.new) (O.faults out.old) (O.faults out.new) (answer_text (command request.entry) plan.now trace.now) }
 {
     let mut block = match Block::new(alloc) {
         Ok(block) => block,
         Err(_) => return End::Memory,
     };
-    let mut wheels = match wheels_for(alloc, plan, request) {
-        Ok(wheels) => wheels,
+    let mut stock = match stock_for(alloc, plan, trace, request) {
+        Ok(stock) => stock,
         Err(_) => return End::Memory,
     };
-    match put_answer(&mut block, out, plan, wheels.as_mut_slice(), request) {
+    match put_answer(
+        &mut block,
+        out,
+        plan,
+        stock.wheels.as_mut_slice(),
+        &stock.events,
+        request,
+    ) {
         Ok(()) => match block.flush(out) {
             Ok(()) => End::Good,
             Err(_) => End::Write,
         },
         Err(_) => End::Write,
     }
+}
+
+/// What a request's files hold, in order.
+fn read_request<F: Files>(
+    alloc: Global,
+    request: Request<'_>,
+    files: &mut F,
+) -> Result<Vec<Vec<u8>>, End>
+    ensures ok { IfOk result (λ v. GotFiles (files_of (command request.entry)) (F.held files.old) (F.held files.new) (F.faults files.old) (F.faults files.new) (F.taken files.new) (map vec_items v.items)) }
+    ensures err { IfErr result (λ end. GotNone (files_of (command request.entry)) (F.held files.old) (F.held files.new) (F.faults files.old) (F.faults files.new) (F.taken files.new) end) }
+{
+    match request.files(alloc) {
+        Ok(list) => read_files(alloc, files, list.as_slice()),
+        Err(_) => Err(End::Memory),
+    }
+}
+
+/// A request, answered from what its files hold.
+fn answer_contents<O: Sink>(
+    alloc: Global,
+    request: Request<'_>,
+    contents: Vec<Vec<u8>>,
+    out: &mut O,
+) -> End
+    requires few { HasFewCycles (command request) }
+    ensures { AnswersContents (command request.entry) (map vec_items contents.items) result (O.written out.old) (O.written out.new) (O.faults out.old) (O.faults out.new) }
+{
+    let loaded = match load(alloc, request, contents.as_slice()) {
+        Ok(loaded) => loaded,
+        Err(end) => return end,
+    };
+    drop(contents);
+    write_answer(alloc, &loaded.plan, &loaded.trace, request, out)
 }
 
 /// A request, done.
@@ -121,13 +179,14 @@ fn answer_request<F: Files, O: Sink>(
     files: &mut F,
     out: &mut O,
 ) -> End
+    requires few { HasFewCycles (command request) }
     ensures { Runs (Some (command request.entry))
         (outside (F.held files.old) (F.taken files.old) (F.faults files.old) (O.written out.old) (O.faults out.old))
         result
         (outside (F.held files.new) (F.taken files.new) (F.faults files.new) (O.written out.new) (O.faults out.new)) }
 {
-    match read_plan(alloc, request.description(), files) {
-        Ok(plan) => write_answer(alloc, &plan, request, out),
+    match read_request(alloc, request, files) {
+        Ok(contents) => answer_contents(alloc, request, contents, out),
         Err(end) => end,
     }
 }

@@ -3,9 +3,9 @@
 ghost use Rattle.std.specs.Prelude.{◌≡◌};
 ghost use Rattle.surf_cli.specs.Lines.{number_of, status_of, line_of, Says};
 
-use desc_check::fault_line;
 use noc_desc::DescFault;
 use surf_base::{Sink, write_all};
+use trace_read::TraceFault;
 
 /// How a run of the program ends.
 #[derive(Clone, Copy, Debug, PartialEq, Eq)]
@@ -14,8 +14,10 @@ pub enum Status {
     Good,
     /// The words are no command.
     Usage,
-    /// The description has a fault.
+    /// The description has a fault, or describes a network that is not built.
     Description,
+    /// The trace has a fault.
+    Trace,
     /// A file could not be read.
     Read,
     /// The output could not be written.
@@ -35,6 +37,7 @@ impl Status {
             Status::Good => 0,
             Status::Usage => 2,
             Status::Description => 3,
+            Status::Trace => 4,
             Status::Read => 6,
             Status::Write => 7,
             Status::Memory => 8,
@@ -52,6 +55,10 @@ pub(crate) enum End {
     Usage,
     /// The description's first fault.
     Description(DescFault),
+    /// The network of the description is not simulated yet.
+    NotBuilt,
+    /// The trace's first fault.
+    Trace(TraceFault),
     /// A file could not be read.
     Read,
     /// The output could not be written.
@@ -70,7 +77,8 @@ impl End {
         match self {
             End::Good => Status::Good,
             End::Usage => Status::Usage,
-            End::Description(_) => Status::Description,
+            End::Description(_) | End::NotBuilt => Status::Description,
+            End::Trace(_) => Status::Trace,
             End::Read => Status::Read,
             End::Write => Status::Write,
             End::Memory => Status::Memory,
@@ -86,6 +94,8 @@ impl End {
             End::Good => {}
             End::Usage => say(err, "surf: usage\n"),
             End::Description(fault) => tell_fault(fault, err),
+            End::NotBuilt => say(err, "surf: description not built\n"),
+            End::Trace(fault) => tell_trace_fault(fault, err),
             End::Read => say(err, "surf: read failed\n"),
             End::Write => say(err, "surf: write failed\n"),
             End::Memory => say(err, "surf: no memory\n"),
@@ -109,7 +119,19 @@ fn tell_fault<E: Sink>(fault: &DescFault, err: &mut E)
     ensures { Says (line_of (End.Description fault.now)) (E.written err.old) (E.written err.new) (E.faults err.old) (E.faults err.new) }
 {
     let mut line = [0; 96];
-    let len = fault_line(fault, &mut line);
+    let len = desc_check::fault_line(fault, &mut line);
+    match write_all(err, &line[..len]) {
+        Ok(()) => {}
+        Err(_) => {}
+    }
+}
+
+/// Writes the line of a trace's fault to the error stream.
+fn tell_trace_fault<E: Sink>(fault: &TraceFault, err: &mut E)
+    ensures { Says (line_of (End.Trace fault.now)) (E.written err.old) (E.written err.new) (E.faults err.old) (E.faults err.new) }
+{
+    let mut line = [0; 96];
+    let len = trace_read::fault_line(fault, &mut line);
     match write_all(err, &line[..len]) {
         Ok(()) => {}
         Err(_) => {}

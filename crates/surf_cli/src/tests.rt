@@ -27,11 +27,24 @@ domain = [{name = \"a\", channels = 1}]\nslots = [\"a\"]\n";
 const RING_OF_FOUR: &str = "version = 1\nshape = \"torus\"\ndims = [4]\nstages = 1\nbuffer = 2\n\
 domain = [{name = \"a\", channels = 1}]\n";
 
-/// Runs the words over one file `d`, and answers the status and what is on the output and the error stream.
+const RING_OF_ONE: &str = "version = 1\nshape = \"torus\"\ndims = [1]\nstages = 1\nbuffer = 2\n\
+domain = [{name = \"a\", channels = 1}]\n";
+
+const TWO_CHANNELS: &str = "version = 1\nshape = \"mesh\"\ndims = [1]\nstages = 1\nbuffer = 2\n\
+domain = [{name = \"a\", channels = 2}]\n";
+
+const ONE_PLACE: &str = "version = 1\nshape = \"mesh\"\ndims = [1]\nstages = 1\nbuffer = 1\n\
+domain = [{name = \"a\", channels = 1}]\n\
+tile = [{at = 0, domains = [\"a\"]}]\n\
+range = [{tile = 0, first = 0x10, last = 0x1f}]\n";
+
+/// Runs the words over a description `d` and a trace `t`, and answers the status and what is on the output and the error
+/// stream.
 fn run(
     rt: &HostRuntime,
     words: &str,
     content: Option<&[u8]>,
+    trace: Option<&str>,
     file_fails: &[u64],
     sink_fails: &[u64],
 ) -> Result<(Status, String, String), Fail> {
@@ -39,6 +52,9 @@ fn run(
     let mut files = MemFiles::new(alloc, 4096, file_fails)?;
     if let Some(bytes) = content {
         files.put("d", bytes)?;
+    }
+    if let Some(text) = trace {
+        files.put("t", text.as_bytes())?;
     }
     let mut out = MemSink::new(alloc, 65536, 8, sink_fails)?;
     let mut err = MemSink::new(alloc, 4096, 64, &[])?;
@@ -133,7 +149,14 @@ fn each_command_gives_its_status_and_bytes(rt: HostRuntime) -> Result<(), Fail> 
         ("--help", None, Status::Usage, "", "surf: usage\n"),
     ];
     for (words, content, status, out, err) in rows {
-        let got = run(&rt, words, content.map(|text| text.as_bytes()), &[], &[])?;
+        let got = run(
+            &rt,
+            words,
+            content.map(|text| text.as_bytes()),
+            None,
+            &[],
+            &[],
+        )?;
         assert!(rt; got.0 == status, "{words}: {:?}", got.0);
         assert_eq!(rt; got.1.as_str(), out, "{words}");
         assert_eq!(rt; got.2.as_str(), err, "{words}");
@@ -149,7 +172,7 @@ fn routes_take_the_shorter_way_round(rt: HostRuntime) -> Result<(), Fail> {
         (CUBE, "\n3 7 5 0\n"),
     ];
     for (content, lines) in rows {
-        let (status, out, err) = run(&rt, "routes d", Some(content.as_bytes()), &[], &[])?;
+        let (status, out, err) = run(&rt, "routes d", Some(content.as_bytes()), None, &[], &[])?;
         assert!(rt; status == Status::Good);
         assert!(rt; out.as_str().contains(lines), "{lines}");
         assert_eq!(rt; err.as_str(), "");
@@ -160,16 +183,16 @@ fn routes_take_the_shorter_way_round(rt: HostRuntime) -> Result<(), Fail> {
 #[test]
 fn failing_calls_give_their_status(rt: HostRuntime) -> Result<(), Fail> {
     let content = Some(TWO_TILES.as_bytes());
-    let (status, out, err) = run(&rt, "schedule d 2", content, &[2], &[])?;
+    let (status, out, err) = run(&rt, "schedule d 2", content, None, &[2], &[])?;
     assert!(rt; status == Status::Read);
     assert_eq!(rt; out.as_str(), "");
     assert_eq!(rt; err.as_str(), "surf: read failed\n");
-    let (status, out, err) = run(&rt, "schedule d 2", content, &[], &[2])?;
+    let (status, out, err) = run(&rt, "schedule d 2", content, None, &[], &[2])?;
     assert!(rt; status == Status::Write);
     assert_eq!(rt; out.as_str(), "0 0 1 a\n");
     assert_eq!(rt; err.as_str(), "surf: write failed\n");
     let long = vec![in rt.alloc(); 32u8; 1_048_577]?;
-    let (status, out, err) = run(&rt, "schedule d 2", Some(long.as_slice()), &[], &[])?;
+    let (status, out, err) = run(&rt, "schedule d 2", Some(long.as_slice()), None, &[], &[])?;
     assert!(rt; status == Status::TooLong);
     assert_eq!(rt; out.as_str(), "");
     assert_eq!(rt; err.as_str(), "surf: file too long\n");
@@ -182,6 +205,7 @@ fn statuses_have_their_numbers(rt: HostRuntime) {
         (Status::Good, 0),
         (Status::Usage, 2),
         (Status::Description, 3),
+        (Status::Trace, 4),
         (Status::Read, 6),
         (Status::Write, 7),
         (Status::Memory, 8),
@@ -190,4 +214,175 @@ fn statuses_have_their_numbers(rt: HostRuntime) {
     for (status, number) in rows {
         assert_eq!(rt; status.number(), number);
     }
+}
+
+const ONE_WORD: &str = "0 0 a send 00000010 0000002a\n";
+
+const DEAF: &str = "0 0 a hold 10\n0 0 a send 10 1\n0 0 a send 10 2\n0 0 a send 10 3\n";
+
+#[test]
+fn one_tile_gives_its_reports(rt: HostRuntime) -> Result<(), Fail> {
+    let rows = [
+        (
+            "simulate d t 6",
+            ONE_TILE,
+            ONE_WORD,
+            "domain a\n0 0 take 0000002a\n4 0 got 11 0000002a\nend 1 0 0 1\n",
+        ),
+        (
+            "simulate d t 0",
+            ONE_TILE,
+            ONE_WORD,
+            "domain a\nend 0 0 0 0\n",
+        ),
+        ("simulate d t 9", ONE_TILE, "", "domain a\nend 0 0 0 0\n"),
+        (
+            "simulate d t 16",
+            ONE_PLACE,
+            DEAF,
+            "domain a\n0 0 take 00000001\n1 0 wait 00000002\n2 0 wait 00000002\n3 0 wait 00000002\n\
+4 0 take 00000002\n5 0 wait 00000003\n6 0 wait 00000003\n7 0 wait 00000003\n8 0 wait 00000003\n\
+9 0 wait 00000003\n10 0 wait 00000003\n10 0 got 11 00000001\n11 0 take 00000003\n\
+11 0 got 11 00000002\n15 0 got 11 00000003\nend 3 9 0 3\n",
+        ),
+        (
+            "simulate d t 4",
+            ONE_TILE,
+            "0 0 a send 99 1 2\n",
+            "domain a\n0 0 take 00000001\n1 0 take 00000002\n1 0 drop\n2 0 drop\nend 2 0 2 0\n",
+        ),
+    ];
+    for (words, content, trace, lines) in rows {
+        let content = Some(content.as_bytes());
+        let (status, out, err) = run(&rt, words, content, Some(trace), &[], &[])?;
+        assert!(rt; status == Status::Good, "{words}");
+        assert_eq!(rt; out.as_str(), lines, "{words}");
+        assert_eq!(rt; err.as_str(), "", "{words}");
+    }
+    Ok(())
+}
+
+#[test]
+fn refused_simulations_say_why(rt: HostRuntime) -> Result<(), Fail> {
+    let rows = [
+        (
+            "simulate d t 65537",
+            ONE_TILE,
+            ONE_WORD,
+            Status::Usage,
+            "surf: usage\n",
+        ),
+        (
+            "simulate d t",
+            ONE_TILE,
+            ONE_WORD,
+            Status::Usage,
+            "surf: usage\n",
+        ),
+        (
+            "simulate d u 6",
+            ONE_TILE,
+            ONE_WORD,
+            Status::Read,
+            "surf: read failed\n",
+        ),
+        (
+            "simulate d u 6",
+            "",
+            ONE_WORD,
+            Status::Read,
+            "surf: read failed\n",
+        ),
+        (
+            "simulate d t 6",
+            "",
+            "0 0 a send",
+            Status::Description,
+            "surf: description fault 3 0 0 0\n",
+        ),
+        (
+            "simulate d t 6",
+            TWO_TILES,
+            "0 0 a send",
+            Status::Description,
+            "surf: description not built\n",
+        ),
+        (
+            "simulate d t 6",
+            RING_OF_ONE,
+            "",
+            Status::Description,
+            "surf: description not built\n",
+        ),
+        (
+            "simulate d t 6",
+            TWO_CHANNELS,
+            "",
+            Status::Description,
+            "surf: description not built\n",
+        ),
+        (
+            "simulate d t 6",
+            ONE_TILE,
+            "0 0 a send",
+            Status::Trace,
+            "surf: trace fault 1 line 1\n",
+        ),
+        (
+            "simulate d t 6",
+            ONE_TILE,
+            "0 9 a send\n\n",
+            Status::Trace,
+            "surf: trace fault 1 line 1\n",
+        ),
+        (
+            "simulate d t 6",
+            ONE_TILE,
+            "# a\n0 0 q hold x",
+            Status::Trace,
+            "surf: trace fault 2 line 2\n",
+        ),
+        (
+            "simulate d t 6",
+            ONE_TILE,
+            "0 9 q hold 1",
+            Status::Trace,
+            "surf: trace fault 3 line 1\n",
+        ),
+        (
+            "simulate d t 6",
+            ONE_TILE,
+            "0 0 q hold 1",
+            Status::Trace,
+            "surf: trace fault 4 line 1\n",
+        ),
+        (
+            "simulate d t 6",
+            ONE_TILE,
+            "0 0 a send 10",
+            Status::Trace,
+            "surf: trace fault 6 line 1\n",
+        ),
+    ];
+    for (words, content, trace, status, line) in rows {
+        let content = Some(content.as_bytes());
+        let got = run(&rt, words, content, Some(trace), &[], &[])?;
+        assert!(rt; got.0 == status, "{words}: {:?}", got.0);
+        assert_eq!(rt; got.1.as_str(), "", "{words}");
+        assert_eq!(rt; got.2.as_str(), line, "{words}");
+    }
+    Ok(())
+}
+
+#[test]
+fn failing_calls_of_a_simulation_give_their_status(rt: HostRuntime) -> Result<(), Fail> {
+    let content = Some(ONE_TILE.as_bytes());
+    let (status, out, _) = run(&rt, "simulate d t 6", content, Some(ONE_WORD), &[], &[2])?;
+    assert!(rt; status == Status::Write);
+    assert_eq!(rt; out.as_str(), "domain a");
+    let (status, out, err) = run(&rt, "simulate d t 6", content, Some(ONE_WORD), &[5], &[])?;
+    assert!(rt; status == Status::Read);
+    assert_eq!(rt; out.as_str(), "");
+    assert_eq!(rt; err.as_str(), "surf: read failed\n");
+    Ok(())
 }

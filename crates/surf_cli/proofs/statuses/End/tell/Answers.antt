@@ -11,3 +11,6 @@ returns-in-Memory g c = rw c.in-Memory.is c.say-in-Memory.ensures
 
 pub returns-in-TooLong : goal.returns-in-TooLong
 returns-in-TooLong g c = rw c.in-TooLong.is c.say-in-TooLong.ensures
+
+pub returns-in-NotBuilt : goal.returns-in-NotBuilt
+returns-in-NotBuilt g c = rw c.in-NotBuilt.is c.say-in-NotBuilt.ensures

@@ -1,5 +1,5 @@
 use Rattle.surf_cli.proofs.Judged.{judged-table, judged-fault, judged-described, ends-faulty}
-use Rattle.surf_cli.proofs.run.judge.Goals as goal
+use Rattle.surf_cli.proofs.loading.judge.Goals as goal
 
 pub returns-in-Err-clause-err : goal.returns-in-Err-clause-err
 returns-in-Err-clause-err c =
