@@ -41,6 +41,7 @@ impl MemFiles {
         ensures fails { IfOk result (λ files. files.script.fails.items ≡ fails.now) }
         ensures calls { IfOk result (λ files. files.script.calls ≡ 0) }
         ensures faults { IfOk result (λ files. files.script.faults ≡ 0) }
+        ensures taken { IfOk result (λ files. files.taken ≡ 0) }
     {
         let script = Script::new(alloc, fails)?;
         Ok(MemFiles {

@@ -18,6 +18,7 @@ impl<'a, R: rt::Files> RealFiles<'a, R> {
     pub fn new(rt: &'a R) -> Self
         ensures closed { result.file ≡ None }
         ensures faults { result.faults ≡ 0 }
+        ensures taken { result.taken ≡ 0 }
     {
         RealFiles {
             rt,
