@@ -13,3 +13,4 @@ pub mod Hosted
 pub mod Reached
 pub mod Rounds
 pub mod FiveSound
+pub mod SplitSound

@@ -71,6 +71,22 @@ fn two_tiles(alloc: Global) -> Result<Parts, AllocError>
     })
 }
 
+/// Two tiles in a row, of which the first hosts `a` alone and the second `b` alone.
+fn split_domains(alloc: Global) -> Result<Parts, AllocError>
+    ensures { IfOk result (λ a. IsSound (plan_of a)) }
+{
+    Ok(Parts {
+        torus: false,
+        dims: vec![in alloc; 2]?,
+        stages: 1,
+        buffer: 2,
+        domains: vec![in alloc; domain(alloc, b"a")?, domain(alloc, b"b")?]?,
+        hosts: vec![in alloc; Host { tile: 0, domain: 0 }, Host { tile: 1, domain: 1 }]?,
+        ranges: vec![in alloc; range(1, 0x100, 0x1ff)]?,
+        slots: vec![in alloc; 0, 1]?,
+    })
+}
+
 fn three_in_a_row(alloc: Global) -> Result<Parts, AllocError>
     ensures { IfOk result (λ a. IsSound (plan_of a)) }
 {
@@ -188,6 +204,9 @@ fn a_packet_that_leads_nowhere_is_dropped(rt: HostRuntime) -> Result<(), Fail> {
         text.as_str(),
         "0/0 take 1\n1/0 take 2\n1/0 drop\n2/0 drop\n"
     );
+    let plan = Plan::new(split_domains(alloc)?);
+    let text = told(alloc, &plan, "0 0 a send 100 5\n", 0, 4)?;
+    assert_eq!(&rt; text.as_str(), "0/0 take 5\n1/0 drop\n");
     Ok(())
 }
 
