@@ -4,7 +4,7 @@ use Rattle.std.specs.Prelude.{Some, None, is_some, nat_lt, not, slice_index, sli
 use Rattle.std.proofs.lemmas.Bool.Decides.{nat_tests}
 use Rattle.std.proofs.lemmas.List.{get_or_past}
 use Rattle.std.proofs.lemmas.Nat.{div_below, mul-add-lt}
-use Rattle.noc_model.specs.Plan.{Plan, channels, lanes, classes, in_channels, out_channels, ports}
+use Rattle.noc_model.specs.Plan.{Plan, channels, lanes, classes, in_channels, out_channels, ports, at_local}
 use Rattle.noc_model.specs.Place.{coords_in, Way, Local, Plus, Minus, way_of, port_of, side, coord, has_link, neighbour, route, goes_plus, class_after, is_wrap, is_wrap_way, is_same_dim, are_edges, next_in, last_in}
 use Rattle.noc_model.specs.Pick.{pick, least}
 use Rattle.noc_model.specs.Tile.{Tile}
@@ -62,7 +62,7 @@ route-output p n dest positive = go (way_of (route p n dest)) refl (leads-to p n
 
 -- ---- classes and channels
 
-classes-some : (torus : Bool) → 1 ≤ (if torus then 2 else 1)
+pub classes-some : (torus : Bool) → 1 ≤ (if torus then 2 else 1)
 classes-some true = lit≤ tt
 classes-some false = lit≤ tt
 
@@ -73,7 +73,7 @@ few-class false true same c h low = absurd (let bad = h refl in cc)
 few-class torus false true c h low = low
 few-class torus false false c h low = let some = classes-some torus in omega arith
 
-and-first : (a b : Bool) → (a && b) ≡ true → a ≡ true
+pub and-first : (a b : Bool) → (a && b) ≡ true → a ≡ true
 and-first true b e = refl
 and-first false b e = absurd (cc e)
 
@@ -92,7 +92,7 @@ no_dim-local Local = refl
 no_dim-local (Plus i) = refl
 no_dim-local (Minus i) = refl
 
-class-local : (p : Plan) (n in_port in_class : ℕ) → class_after p n in_port in_class 0 ≡ 0
+pub class-local : (p : Plan) (n in_port in_class : ℕ) → class_after p n in_port in_class 0 ≡ 0
 unfolding class_after is_wrap
 class-local p n in_port in_class = rw no_dim-local refl
 
@@ -110,7 +110,7 @@ channel-class p d (suc port) c below = go (channels p d) below
     go zero h = absurd (let none : classes p * 0 ≡ 0 = omega arith in omega arith)
     go (suc k) h = div_below c (suc k) (classes p) (omega arith) h
 
-option-map-is : {A B : Type 0} (f : A → B) (o : Option A) (y : B) → option_map f o ≡ Some y → (x : A) × (o ≡ Some x) × (f x ≡ y)
+pub option-map-is : {A B : Type 0} (f : A → B) (o : Option A) (y : B) → option_map f o ≡ Some y → (x : A) × (o ≡ Some x) × (f x ≡ y)
 option-map-is f None y e = absurd (cc e)
 option-map-is f (Some x) y e = (x, refl, cc)
 
@@ -128,7 +128,15 @@ free-few p d s (suc o) class w low local e =
     let turned : channels p d * classes p ≡ classes p * channels p d = mul_comm (channels p d) (classes p) in
     omega (arith, found.2, fits, turned)
 
-class-zero : (p : Plan) (d n port c o : ℕ) → o ≡ 0 → class_of p d n port c o ≡ 0
+-- a channel of a class at an output is one of the output's
+pub free-there : (p : Plan) (d o class j : ℕ) → class < classes p → (o ≡ 0 → class ≡ 0) → j < at_local o 1 (channels p d) → class * channels p d + j < out_channels p d o
+free-there p d zero class j low local below =
+    let at : class ≡ 0 = local refl in
+    let none : class * channels p d ≡ 0 = rw at (omega arith) in
+    omega (arith, none)
+free-there p d (suc o) class j low local below = rw (mul_comm (classes p) (channels p d)) (mul-add-lt class (channels p d) j (classes p) low below)
+
+pub class-zero : (p : Plan) (d n port c o : ℕ) → o ≡ 0 → class_of p d n port c o ≡ 0
 class-zero p d n port c o e = rw e (class-local p n port (c / channels p d))
 
 -- the channel that is given out is one of the output's

@@ -28,7 +28,7 @@ hosted-own : (p : Plan) (d n : ℕ) → hosts p n d ≡ true → IsOwn p d (numb
 hosted-own p d n fits = record { host = record { tile = n; domain = d }; at = attached p n d fits; own = refl }
 
 -- what two functions make of the members of a filtered list
-flat_map-same : {A B : Type 0} (test : A → Bool) (f g : A → List B) (xs : List A) → ((x : A) → test x ≡ true → f x ≡ g x) → flat_map f (filter test xs) ≡ flat_map g (filter test xs)
+pub flat_map-same : {A B : Type 0} (test : A → Bool) (f g : A → List B) (xs : List A) → ((x : A) → test x ≡ true → f x ≡ g x) → flat_map f (filter test xs) ≡ flat_map g (filter test xs)
 flat_map-same test f g [] same = refl
 flat_map-same test f g (x ∷ xs) same = go (test x) refl (flat_map-same test f g xs same)
   where

@@ -13,3 +13,9 @@ pub mod Shared
 pub mod Walk
 pub mod Laws
 pub mod SoundState
+pub mod Holder
+pub mod Same
+pub mod Reached
+pub mod Flits
+pub mod Packets
+pub mod Delivery
