@@ -16,6 +16,7 @@ pub mod Ports
 pub mod Links
 pub mod Kept
 pub mod SharedRows
+pub mod Additive
 pub mod Ring
 pub mod Rank
 pub mod Route
