@@ -4,7 +4,7 @@ ghost use Rattle.std.specs.Prelude.{IfOk};
 ghost use Rattle.noc_model.specs.PlanOf.{plan_of};
 ghost use Rattle.noc_model.specs.Sound.{IsSound};
 
-use crate::{Entry, TraceFault, read_trace};
+use crate::{Entry, Restrict, TraceFault, read_trace};
 use noc_model::{DomainPart, Host, Parts, Plan, Range};
 use std::alloc::{AllocError, Global};
 use surf_base::Bytes;

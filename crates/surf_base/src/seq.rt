@@ -1,14 +1,17 @@
-//! The lists that a design is made of.
-ghost use Rattle.std.specs.Prelude.{◌≡◌, [], ◌∷◌, ◌++◌, ◌<◌, length, slice_index_or, IfOk, OnOk, OnErr};
+//! Lists that contracts see as the list of their elements.
+ghost use Rattle.std.specs.Prelude.{◌≡◌, ◌<◌, ◌↔◌, [], ◌∷◌, ◌++◌, length, slice_get, Some, IsTrue, IfOk, OnOk, OnErr};
 
 use std::alloc::{AllocError, Global};
 use std::marker::Model;
 
-/// A `Vec` that contracts see as the list of its elements.
+/// A `Vec` that contracts see as the list of its elements. It keeps its allocator.
 #[derive(Debug, Drop)]
 pub struct Seq<T> {
     items: Vec<T>,
 }
+
+/// A list of bytes.
+pub type Bytes = Seq<u8>;
 
 impl<T> Model for Seq<T> {
     ghost use Rattle.std.specs.Prelude.{List};
@@ -31,6 +34,14 @@ impl<T> Seq<T> {
         }
     }
 
+    /// The empty list, with memory for `count` elements.
+    pub fn with_capacity(alloc: Global, count: usize) -> Result<Seq<T>, AllocError>
+        ensures { IfOk result (λ s. s ≡ []) }
+    {
+        let items = Vec::with_capacity(alloc, count)?;
+        Ok(Seq { items })
+    }
+
     /// How many elements there are.
     pub fn len(&self) -> usize
         ensures { result ≡ length self.now }
@@ -38,10 +49,17 @@ impl<T> Seq<T> {
         self.items.len()
     }
 
-    /// The element at the position, from 0.
+    /// Whether there is no element.
+    pub fn is_empty(&self) -> bool
+        ensures { IsTrue result ↔ (self.now ≡ []) }
+    {
+        self.items.is_empty()
+    }
+
+    /// The element at index `i`, from 0.
     pub fn at(&self, i: usize) -> &T
         requires { i < length self.now }
-        ensures { result.now ≡ slice_index_or self.now i result.now }
+        ensures { slice_get self.now i ≡ Some result.now }
     {
         &self.items[i]
     }
@@ -55,7 +73,7 @@ impl<T> Seq<T> {
 }
 
 impl<T: Drop> Seq<T> {
-    /// Adds an element at the end. The list stays as it was where memory is refused.
+    /// Adds an element at the end. The list stays as it was when memory runs out.
     pub fn push(&mut self, item: T) -> Result<(), AllocError>
         ensures ok { OnOk result (self.new ≡ self.old ++ item ∷ []) }
         ensures err { OnErr result (self.new ≡ self.old) }
@@ -72,5 +90,12 @@ impl<T: Copy> Seq<T> {
     {
         let items = Vec::from_slice(alloc, items)?;
         Ok(Seq { items })
+    }
+
+    /// An equal list.
+    pub fn copy(&self, alloc: Global) -> Result<Seq<T>, AllocError>
+        ensures { IfOk result (λ s. s ≡ self.now) }
+    {
+        Seq::from_slice(alloc, self.as_slice())
     }
 }
