@@ -111,7 +111,8 @@ fn is_same_dim(a: Way, b: Way) -> bool
     }
 }
 
-/// The rank of the channels of a class on the link that leaves tile `at` by the port, below 96. It rises along every route.
+/// The rank of the channels of a class on the link that leaves tile `at` by the port, below 96; 0 for the local port. It rises
+/// along every route.
 pub fn rank(plan: &Plan, at: u32, out_port: u32, class: u32) -> u32
     requires tile { at < tiles plan.now }
     requires port { out_port < ports plan.now }
