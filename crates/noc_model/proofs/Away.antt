@@ -10,7 +10,9 @@ use Rattle.noc_model.specs.declared.Stage.{Stage}
 use Rattle.noc_model.specs.declared.Stage.TheVariants.{Idle, Routed, Active}
 use Rattle.noc_model.specs.Plan.{Plan, tiles, hosts, lanes}
 use Rattle.noc_model.specs.Sound.{IsSound}
-use Rattle.noc_model.specs.Place.{coords_in, Way, Local, Plus, Minus, way_of, goes_plus, way_from, route}
+use Rattle.noc_model.specs.declared.ways.Way.{Way}
+use Rattle.noc_model.specs.declared.ways.Way.TheVariants.{Local, Plus, Minus}
+use Rattle.noc_model.specs.Place.{coords_in, way_of, goes_plus, way_from, route}
 use Rattle.noc_model.specs.Tile.{Tile, TileIn}
 use Rattle.noc_model.specs.Step.{routed, is_place, winner, taken_channel, activated, leaves, is_tail, front, sent, next_stage, is_open, word_in, next_packet, entry, is_dropped, next_current, comes_in, next_ejected, one_if, tile_step}
 use Rattle.noc_model.specs.SoundState.{GoesHome}
@@ -18,7 +20,7 @@ use Rattle.noc_model.specs.Same.{GoesOn, IsUnattached}
 use Rattle.noc_model.proofs.Coords.{AllPositive, positive, Within, within-coords_in, tile_in-coords_in}
 use Rattle.noc_model.specs.Place.{tile_in}
 use Rattle.noc_model.proofs.Wave.{way_of-port_of}
-use Rattle.noc_model.proofs.HostTiles.{attached, host-within}
+use Rattle.noc_model.proofs.HostTiles.{hosts-inside}
 use Rattle.noc_model.proofs.Switch.{sent-by, grant-ready}
 
 -- ---- routes
@@ -54,14 +56,11 @@ route-home p n dest positive inside there e =
 
 -- ---- packets go on
 
-pub home-there : (p : Plan) (d : ℕ) (f : Flit) → IsSound p → GoesHome p d f → f.dest < tiles p
-home-there p d f sound home = (host-within p _ _ sound (attached p f.dest d home)).0
-
 goes-on : (p : Plan) (d n : ℕ) (fs : List Flit) → IsSound p → n < tiles p → hosts p n d ≡ false → All (GoesHome p d) fs → GoesOn (routed p n fs Idle)
 goes-on p d n [] sound inside away home = tt
 goes-on p d n (f ∷ fs) sound inside away home =
     let first : GoesHome p d f = All-head (GoesHome p d) f fs home in
-    λ e. (let same = route-home p n f.dest (positive p.dims sound.sides) inside (home-there p d f sound first) e in
+    λ e. (let same = route-home p n f.dest (positive p.dims sound.sides) inside (hosts-inside p f.dest d sound first) e in
     let here : hosts p n d ≡ true = subst (λ m. hosts p m d ≡ true) (sym same) first in
     cc (here, away))
 

@@ -25,7 +25,8 @@ use Rattle.noc_model.proofs.Links.{link-from}
 use Rattle.noc_model.proofs.Sum.{IsLink, comes_in-link, arrival-is}
 use Rattle.noc_model.proofs.StateKept.{neighbour-inside, some-channels}
 use Rattle.noc_model.proofs.Switch.{leaves-front, grant-ready, sent-by}
-use Rattle.noc_model.proofs.Away.{route-home, home-there}
+use Rattle.noc_model.proofs.HostTiles.{hosts-inside}
+use Rattle.noc_model.proofs.Away.{route-home}
 use Rattle.noc_model.proofs.Reached.{reached-start, reached-next}
 use Rattle.noc_model.proofs.Packets.{packets-append, packets-left, on_way-part, front-next, same-dest, moved_on, FrontStands, HeadFor}
 use Rattle.noc_model.proofs.Entries.{entry_at, entry-free, next_stand, Stand, entry-next, front-list}
@@ -187,7 +188,7 @@ eject-home p d n t s i g x sound inside stand home e =
     let list = front-list (s.queue by.port by.by.channel) x.flit by.is_front in
     let stands = subst (FrontStands p n (g by.port by.by.channel) (s.queue by.port by.by.channel)) ready.active (stand.stands by.port by.by.channel ready.in_range) in
     let names : route p n x.flit.dest ≡ 0 = to (g by.port by.by.channel) (s.queue by.port by.by.channel) list.0 by.by.out by.by.to list.1 by.out (stand.fits by.port by.by.channel x.flit list.0 ready.in_range list.1) stands in
-    let there = home-there p d x.flit sound (first-home list.0 (s.queue by.port by.by.channel) list.1 (home by.port by.by.channel)) in
+    let there = hosts-inside p x.flit.dest d sound (first-home list.0 (s.queue by.port by.by.channel) list.1 (home by.port by.by.channel)) in
     sym (route-home p n x.flit.dest (positive p.dims sound.sides) inside there names)
   where
     to : (a : Option ℕ) (qs gs : List Flit) (o w : ℕ) → qs ≡ x.flit ∷ gs → o ≡ 0 → may_come a x.flit ≡ true → FrontStands p n a qs (Active o w) → route p n x.flit.dest ≡ 0

@@ -2,7 +2,6 @@
 use Rattle.std.proofs.Common.{◌≡◌, ℕ, ◌+◌, ◌*◌, ◌/◌, ◌%◌, ◌<◌, ◌⊎◌, inl, inr, Bool, true, false, Option, List, [], ◌∷◌, refl, sym, ap, ◌∙◌, subst, arith, ◌==◌, ◌&&◌, ℤ}
 use Rattle.std.specs.Prelude.{Some, None, is_some, if◌then◌else◌, option_and_then}
 use Rattle.std.proofs.lemmas.Bool.Decides.{nat_tests}
-use Rattle.std.proofs.lemmas.Nat.{div-mul-add, mod-mul-add}
 use Rattle.noc_model.specs.declared.Flit.{Flit}
 use Rattle.noc_model.specs.declared.LinkFlit.{LinkFlit}
 use Rattle.noc_model.specs.declared.Grant.{Grant}
@@ -13,7 +12,8 @@ use Rattle.noc_model.specs.Step.{grant, is_channel, leaves, front, with_channel,
 use Rattle.noc_model.specs.Holder.{IsHolder, HasHolder, IsHeldTile, holder_of}
 use Rattle.noc_model.specs.Packets.{may_come, after_flit, ArePackets}
 use Rattle.noc_model.proofs.Switch.{grant-ready, sent-by}
-use Rattle.noc_model.proofs.Holders.{input-within, granted-sent, granted-leaves, holder-stays, holder-from, Stays, Wins, WasOrWins, taken-free, old-holder}
+use Rattle.noc_model.proofs.Inputs.{input-within, port-place, channel-place}
+use Rattle.noc_model.proofs.Holders.{granted-sent, granted-leaves, holder-stays, holder-from, Stays, Wins, WasOrWins, taken-free, old-holder}
 use Rattle.noc_model.proofs.HolderMap.{holder_of-is, held-is_some}
 use Rattle.noc_model.proofs.Packets.{moved_on, FrontStands, stays-put}
 
@@ -25,7 +25,7 @@ pub entry-holder : (p : Plan) (d n : ℕ) (s : Tile) (g : ℕ → ℕ → Option
 entry-holder p d n s g o w port c right is =
     let within = input-within p d port c is.below in
     ap (option_and_then (λ k. g (k / lanes p d) (k % lanes p d))) (holder_of-is p d n s o w port c right is)
-    ∙ ap (λ k. g k ((port * lanes p d + c) % lanes p d)) (div-mul-add port (lanes p d) c within) ∙ ap (g port) (mod-mul-add port (lanes p d) c within)
+    ∙ ap (λ k. g k ((port * lanes p d + c) % lanes p d)) (port-place p d port c within) ∙ ap (g port) (channel-place p d port c within)
 
 pub entry-free : (p : Plan) (d n : ℕ) (s : Tile) (g : ℕ → ℕ → Option ℕ) (o w : ℕ) → IsHeldTile p d n s → s.held o w ≡ false → entry_at p d s g o w ≡ None
 entry-free p d n s g o w right free = go (holder_of p d s o w) refl

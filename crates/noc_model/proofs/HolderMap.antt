@@ -1,9 +1,8 @@
 -- The map from output channels to the places that hold them.
-use Rattle.std.proofs.Common.{◌≡◌, ℕ, zero, suc, ◌+◌, ◌*◌, ◌/◌, ◌%◌, ◌<◌, ◌≤◌, ◌⊎◌, inl, inr, Bool, true, false, Option, refl, sym, ◌∙◌, ap, arith, mul_comm, ◌&&◌}
+use Rattle.std.proofs.Common.{◌≡◌, ℕ, zero, suc, ◌+◌, ◌*◌, ◌/◌, ◌%◌, ◌<◌, ◌≤◌, ◌⊎◌, inl, inr, Bool, true, false, Option, refl, sym, ◌∙◌, ap, arith, ◌&&◌}
 use Rattle.std.specs.Prelude.{Some, None, is_some, nat_lt}
 use Rattle.std.specs.Option.{option_or}
 use Rattle.std.proofs.lemmas.Bool.Decides.{nat_tests}
-use Rattle.std.proofs.lemmas.Nat.{div-mul-add, mod-mul-add, div-add-mod', mul-add-lt}
 use Rattle.noc_model.specs.declared.Stage.{Stage}
 use Rattle.noc_model.specs.declared.Stage.TheVariants.{Idle, Routed, Active}
 use Rattle.noc_model.specs.Plan.{Plan, lanes, in_channels, ports}
@@ -11,7 +10,7 @@ use Rattle.noc_model.specs.Pick.{least, number_if}
 use Rattle.noc_model.specs.Tile.{Tile}
 use Rattle.noc_model.specs.Holder.{IsHolder, IsHeldTile, goes_on, is_holding, holder_of}
 use Rattle.noc_model.proofs.Least.{least-member}
-use Rattle.noc_model.proofs.Holders.{input-within, row-inside}
+use Rattle.noc_model.proofs.Inputs.{input-within, place-below, port-below, place-input, port-place, channel-place}
 
 -- where there is a member there is a least one
 least-some : (n : ℕ) (set : ℕ → Bool) (k : ℕ) → k < n → set k ≡ true → (j : ℕ) × (least n set ≡ Some j)
@@ -65,7 +64,7 @@ holder_of-holds p d s o w k e =
     let member = least-member (ports p * lanes p d) (is_holding p d s o w) k e in
     let both = parts (nat_lt (k % lanes p d) (in_channels p d (k / lanes p d))) (goes_on (s.stage (k / lanes p d) (k % lanes p d)) o w) member.1 in
     record {
-      inside = row-inside k (lanes p d) (ports p) member.0;
+      inside = port-below p d k member.0;
       below = low (k % lanes p d) (in_channels p d (k / lanes p d)) both.0;
       active = goes_on-active (s.stage (k / lanes p d) (k % lanes p d)) o w both.1;
     }
@@ -79,14 +78,11 @@ pub holder_of-is : (p : Plan) (d n : ℕ) (s : Tile) (o w port c : ℕ) → IsHe
 holder_of-is p d n s o w port c right is =
     let within : c < lanes p d = input-within p d port c is.below in
     let place : ℕ = port * lanes p d + c in
-    let inside : place < ports p * lanes p d = below within in
+    let inside = place-below p d port c is.inside within in
     let found = least-some (ports p * lanes p d) (is_holding p d s o w) place inside
-    (holding-at p d s o w port c place is (div-mul-add port (lanes p d) c within) (mod-mul-add port (lanes p d) c within)) in
+    (holding-at p d s o w port c place is (port-place p d port c within) (channel-place p d port c within)) in
     let same = right.one o w (found.0 / lanes p d) (found.0 % lanes p d) port c (holder_of-holds p d s o w found.0 found.1) is in
-    found.1 ∙ ap Some (sym (div-add-mod' found.0 (lanes p d)) ∙ ap (λ k. k * lanes p d + found.0 % lanes p d) same.0 ∙ ap (λ k. port * lanes p d + k) same.1)
-  where
-    below : c < lanes p d → port * lanes p d + c < ports p * lanes p d
-    below within = rw (mul_comm (ports p) (lanes p d)) (mul-add-lt port (lanes p d) c (ports p) is.inside within)
+    found.1 ∙ ap Some (sym (place-input p d found.0) ∙ ap (λ k. k * lanes p d + found.0 % lanes p d) same.0 ∙ ap (λ k. port * lanes p d + k) same.1)
 
 -- a channel is held exactly where the map gives a place
 pub held-is_some : (p : Plan) (d n : ℕ) (s : Tile) (o w : ℕ) → IsHeldTile p d n s → s.held o w ≡ is_some (holder_of p d s o w)

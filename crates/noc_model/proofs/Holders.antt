@@ -1,14 +1,13 @@
 -- An output channel is held by one input channel, and by none if it isn't held, in every state of every run.
-use Rattle.std.proofs.Common.{◌≡◌, ◌≢◌, ℕ, zero, suc, ◌+◌, ◌*◌, ◌/◌, ◌%◌, ◌<◌, ◌⊎◌, inl, inr, Bool, true, false, Option, List, [], ◌∷◌, refl, sym, ◌∙◌, ap, subst, arith, mul_comm, ◌≤◌, ◌==◌, ◌&&◌, ◌||◌, ℤ}
+use Rattle.std.proofs.Common.{◌≡◌, ◌≢◌, ℕ, ◌+◌, ◌*◌, ◌/◌, ◌%◌, ◌<◌, ◌⊎◌, inl, inr, Bool, true, false, Option, List, [], ◌∷◌, refl, sym, ◌∙◌, ap, subst, arith, ◌==◌, ◌&&◌, ◌||◌, ℤ}
 use Rattle.std.specs.Prelude.{Some, None, not, is_some, nat_lt, if◌then◌else◌}
 use Rattle.std.proofs.lemmas.Bool.Decides.{nat_tests}
-use Rattle.std.proofs.lemmas.Nat.{div_below, div-mul-add, mod-mul-add, div-add-mod', mul-add-lt}
 use Rattle.noc_model.specs.declared.Flit.{Flit}
 use Rattle.noc_model.specs.declared.LinkFlit.{LinkFlit}
 use Rattle.noc_model.specs.declared.Grant.{Grant}
 use Rattle.noc_model.specs.declared.Stage.{Stage}
 use Rattle.noc_model.specs.declared.Stage.TheVariants.{Idle, Routed, Active}
-use Rattle.noc_model.specs.Plan.{Plan, channels, lanes, classes, in_channels, ports, at_local}
+use Rattle.noc_model.specs.Plan.{Plan, channels, lanes, in_channels, ports, at_local}
 use Rattle.noc_model.specs.Place.{neighbour}
 use Rattle.noc_model.specs.Pick.{least}
 use Rattle.noc_model.specs.Tile.{Tile, TileIn}
@@ -16,29 +15,8 @@ use Rattle.noc_model.specs.Step.{routed, waits_for, class_of, free_for, is_candi
 use Rattle.noc_model.specs.Holder.{IsHolder, HasHolder, IsHeldTile}
 use Rattle.noc_model.proofs.Least.{least-member, pick-member}
 use Rattle.noc_model.proofs.Switch.{then-is, granted_to-is, grant-ready, sent-by}
-use Rattle.noc_model.proofs.Outputs.{option-map-is, and-first, classes-some}
-
--- ---- places
-
--- an input port's channels are no more than a link's
-pub input-within : (p : Plan) (d port c : ℕ) → c < in_channels p d port → c < lanes p d
-input-within p d zero c below = go (classes p) (classes-some p.torus)
-  where
-    go : (k : ℕ) → 1 ≤ k → c < k * channels p d
-    go zero some = absurd (omega arith)
-    go (suc k) some = let first : c < channels p d = below in let all = mul-add-lt 0 (channels p d) c (suc k) (omega arith) first in omega (arith, all, mul_comm (channels p d) (suc k))
-input-within p d (suc port) c below = below
-
--- places with one number are one place
-pub place-one : (m port c port' c' : ℕ) → c < m → c' < m → port * m + c ≡ port' * m + c' → (port ≡ port') × (c ≡ c')
-place-one m port c port' c' below below' e = (
-  sym (div-mul-add port m c below) ∙ ap (λ k. k / m) e ∙ div-mul-add port' m c' below',
-  sym (mod-mul-add port m c below) ∙ ap (λ k. k % m) e ∙ mod-mul-add port' m c' below',
-)
-
-pub row-inside : (k m rows : ℕ) → k < rows * m → k / m < rows
-row-inside k zero rows below = absurd (let none : rows * 0 ≡ 0 = omega arith in omega arith)
-row-inside k (suc m) rows below = div_below k (suc m) rows (omega arith) below
+use Rattle.noc_model.proofs.Inputs.{input-within, port-below, place-input, place-one}
+use Rattle.noc_model.proofs.Outputs.{option-map-is, and-first}
 
 -- ---- what a stage comes from
 
@@ -121,7 +99,7 @@ winner-waits p d n s o k e =
     let waits : Bool = waits_for (s.stage port c) o in
     let free : Bool = is_some (free_for p d n s o port c) in
     record {
-      inside = row-inside k (lanes p d) (ports p) member.0;
+      inside = port-below p d k member.0;
       below = low c (in_channels p d port) (and-first (nat_lt c (in_channels p d port)) (waits && free) member.1);
       was = waits_for-is (s.stage port c) o (and-first waits free (and-rest (nat_lt c (in_channels p d port)) (waits && free) member.1));
     }
@@ -238,7 +216,7 @@ unfolding tile_step taken_channel
 winner-holds p d n t s i o w e =
     let got = then-is (λ k. free_for p d n s o (k / lanes p d) (k % lanes p d)) (winner p d n s o) w e in
     let waits = winner-waits p d n s o got.0 got.1 in
-    let place : got.0 / lanes p d * lanes p d + got.0 % lanes p d ≡ got.0 = div-add-mod' got.0 (lanes p d) in
+    let place : got.0 / lanes p d * lanes p d + got.0 % lanes p d ≡ got.0 = place-input p d got.0 in
     record {
       port = got.0 / lanes p d;
       channel = got.0 % lanes p d;
@@ -342,7 +320,7 @@ held-step p d n t s i right empty = record {
         go (inr a) (inl b) = absurd (taken-held port' c' is'.inside is'.below b.was a.takes)
         go (inr a) (inr b) =
             let e : Some (port * lanes p d + c) ≡ Some (port' * lanes p d + c') = sym a.place ∙ b.place in
-            place-one (lanes p d) port c port' c' (input-within p d port c is.below) (input-within p d port' c' is'.below) (cc (e))
+            place-one p d port c port' c' (input-within p d port c is.below) (input-within p d port' c' is'.below) (cc (e))
 
     has-after : (o w : ℕ) → ((s.held o w && not (is_tail_on (sent p d n t s i o) w)) ≡ true) ⊎ (is_place (taken_channel p d n s o) w ≡ true)
         → HasHolder p d (tile_step p d n t s i) o w

@@ -23,10 +23,11 @@ pub mod Route
 pub mod Quiet
 pub mod Modulo
 pub mod SoundExamples
+pub mod Inputs
 pub mod Outputs
 pub mod TileKept
 pub mod StateKept
-pub mod OwnPart
+pub mod OwnAttachments
 pub mod Holders
 pub mod HolderMap
 pub mod SamePlaces
@@ -34,6 +35,8 @@ pub mod Away
 pub mod SameStates
 pub mod Reached
 pub mod SameRuns
+pub mod TileRuns
+pub mod OwnPart
 pub mod FlitRows
 pub mod UnrealRows
 pub mod Totals

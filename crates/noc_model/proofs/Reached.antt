@@ -18,7 +18,7 @@ use Rattle.noc_model.proofs.Holders.{held-step}
 use Rattle.noc_model.proofs.Away.{away-step, unattached-step}
 use Rattle.noc_model.proofs.SameStates.{fed-nothing}
 
-start-held : (p : Plan) (d : ℕ) → IsHeldState p d (start p)
+pub start-held : (p : Plan) (d : ℕ) → IsHeldState p d (start p)
 start-held p d n = record {
   held = λ o w port c is. absurd (let e = is.active in cc e);
   one = λ o w port c port' c' is is'. absurd (let e = is.active in cc e);
@@ -75,15 +75,15 @@ holder-output p d n t s o w port c sound is = subst (HasOutput p d n) is.active 
 pub placed : (p : Plan) (d : ℕ) (t : ℤ) (s : State) → IsReached p d t s → IsPlacedState p d s
 placed p d t s reached n inside = record {
   bare = record {
-    empty = λ port c link none. (reached.sound n).unlinked port c link none;
-    idle = λ port c link none. (reached.held n).unlinked port c link none;
+    empty = λ port c link none below. (reached.sound n).unlinked port c link none;
+    idle = λ port c link none below. (reached.held n).unlinked port c link none;
   };
   stages = λ port c. (reached.sound n).stages port c;
   current = (reached.sound n).current;
   away = λ away port c. reached.away n inside away port c;
 }
 
-pub bare : (p : Plan) (d : ℕ) (t : ℤ) (s : State) → IsReached p d t s → IsBareState p s
+pub bare : (p : Plan) (d : ℕ) (t : ℤ) (s : State) → IsReached p d t s → IsBareState p d s
 bare p d t s reached n inside = (placed p d t s reached n inside).bare
 
 -- ---- runs that a driver makes

@@ -1,6 +1,6 @@
 -- A step needs only the places that there are.
 use Rattle.std.proofs.Common.{◌≡◌, ◌≢◌, ℕ, zero, suc, ◌+◌, ◌-◌, ◌*◌, ◌/◌, ◌%◌, ◌<◌, ◌⊎◌, inl, inr, Bool, true, false, Option, List, [], ◌∷◌, ◌++◌, length, drop, refl, sym, ap, ◌∙◌, arith, ◌==◌, ◌&&◌, ◌||◌, ℤ}
-use Rattle.std.specs.Prelude.{Some, None, is_some, is_none, not, nat_lt, nat_le, if◌then◌else◌, option_map, option_and_then, option_to_list}
+use Rattle.std.specs.Prelude.{Some, None, is_some, is_none, not, nat_lt, if◌then◌else◌, option_map, option_and_then, option_to_list}
 use Rattle.std.proofs.lemmas.Bool.Decides.{nat_tests}
 use Rattle.noc_model.specs.declared.Flit.{Flit}
 use Rattle.noc_model.specs.declared.Offer.{Offer}
@@ -9,12 +9,12 @@ use Rattle.noc_model.specs.declared.Stage.{Stage}
 use Rattle.noc_model.specs.declared.Stage.TheVariants.{Idle, Routed, Active}
 use Rattle.noc_model.specs.Plan.{Plan, channels, lanes, classes, in_channels, out_channels, ports, at_local, hosts}
 use Rattle.noc_model.specs.Place.{neighbour, owner}
-use Rattle.noc_model.specs.Pick.{pick, least}
+use Rattle.noc_model.specs.Pick.{pick}
 use Rattle.noc_model.specs.Tile.{Tile, TileIn}
 use Rattle.noc_model.specs.Step.{routed, waits_for, class_of, free_channel, free_for, is_candidate, winner, is_place, taken_channel, activated, takes, is_ready_at, is_ready, grant_at, asked, asks_for, chosen, granted_to, grant, is_channel, leaves, front, with_channel, sent, is_on, is_tail_on, is_tail, flit_on, one_if, next_stage, is_ready_packet, is_open, word_in, next_packet, entry, is_dropped, next_current, comes_in, after, after_grant, next_ejected, tile_step}
 use Rattle.noc_model.specs.SoundState.{IsOutput, HasOutput}
 use Rattle.noc_model.specs.Same.{IsSameTile, IsSameIn, IsBareTile, GoesOn, IsPlacedTile}
-use Rattle.noc_model.proofs.Least.{pick-member}
+use Rattle.noc_model.proofs.Least.{pick-member, least-same, pick-same}
 use Rattle.noc_model.proofs.Switch.{asked-ready, grant-ready}
 use Rattle.noc_model.proofs.Outputs.{class-few, class-zero, channel-class, free-there}
 
@@ -23,25 +23,9 @@ pub record AreTwins (p : Plan) (d n : ℕ) (a b : Tile) (i j : TileIn) : Type 0 
   pub same : IsSameTile p d n a b
   pub fed : IsSameIn p d n i j
   pub placed : IsPlacedTile p d n a
-  pub bare : IsBareTile p n b
+  pub bare : IsBareTile p d n b
   -- a tile that doesn't host the domain is offered nothing
   pub none : hosts p n d ≡ false → (i.offer ≡ None) × (j.offer ≡ None)
-
--- ---- searches
-
-least-same : (n : ℕ) (f g : ℕ → Bool) → ((k : ℕ) → k < n → f k ≡ g k) → least n f ≡ least n g
-least-same zero f g same = refl
-least-same (suc n) f g same =
-    let before = least-same n f g (λ k less. same k (omega arith)) in
-    let here : f n ≡ g n = same n (omega arith) in
-    rw (before, here) refl
-
-pick-same : (n : ℕ) (f g : ℕ → Bool) (a b : ℕ) → ((k : ℕ) → k < n → f k ≡ g k) → a ≡ b → pick n f a ≡ pick n g b
-unfolding pick
-pick-same n f g a b same e =
-    let later = least-same n (λ k. nat_le a k && f k) (λ k. nat_le b k && g k) (λ k less. ap (λ x. nat_le a k && x) (same k less) ∙ ap (λ x. nat_le x k && g k) e) in
-    let all = least-same n f g same in
-    rw (later, all) refl
 
 pub then-same : {A B : Type 0} (f g : A → Option B) (o q : Option A) → o ≡ q → ((x : A) → q ≡ Some x → f x ≡ g x) → option_and_then f o ≡ option_and_then g q
 then-same {A = A} {B = B} f g o q e each = ap (option_and_then f) e ∙ go q each
@@ -66,14 +50,14 @@ stage-all p d n a b i j port c twins below = go (by_port p n port)
   where
     go : IsOutput p n port ⊎ ((port ≢ 0) × (neighbour p n port ≡ None)) → a.stage port c ≡ b.stage port c
     go (inl there) = twins.same.stage port c there below
-    go (inr away) = twins.placed.bare.idle port c away.0 away.1 ∙ sym (twins.bare.idle port c away.0 away.1)
+    go (inr away) = twins.placed.bare.idle port c away.0 away.1 below ∙ sym (twins.bare.idle port c away.0 away.1 below)
 
 queue-all : (p : Plan) (d n : ℕ) (a b : Tile) (i j : TileIn) (port c : ℕ) → AreTwins p d n a b i j → c < in_channels p d port → a.queue port c ≡ b.queue port c
 queue-all p d n a b i j port c twins below = go (by_port p n port)
   where
     go : IsOutput p n port ⊎ ((port ≢ 0) × (neighbour p n port ≡ None)) → a.queue port c ≡ b.queue port c
     go (inl there) = twins.same.queue port c there below
-    go (inr away) = twins.placed.bare.empty port c away.0 away.1 ∙ sym (twins.bare.empty port c away.0 away.1)
+    go (inr away) = twins.placed.bare.empty port c away.0 away.1 below ∙ sym (twins.bare.empty port c away.0 away.1 below)
 
 -- ---- the outputs' channels
 
@@ -168,14 +152,14 @@ ready-same p d n t a b i j port c twins below =
     ∙ ap (is_ready_at p d n t b j (b.queue port c)) (stage-all p d n a b i j port c twins below)
 
 -- a port without a link asks for nothing
-bare-asks : (p : Plan) (d n : ℕ) (t : ℤ) (s : Tile) (i : TileIn) (port : ℕ) → IsBareTile p n s → port ≢ 0 → neighbour p n port ≡ None → asked p d n t s i port ≡ None
+bare-asks : (p : Plan) (d n : ℕ) (t : ℤ) (s : Tile) (i : TileIn) (port : ℕ) → IsBareTile p d n s → port ≢ 0 → neighbour p n port ≡ None → asked p d n t s i port ≡ None
 bare-asks p d n t s i port bare link none = go (asked p d n t s i port) refl
   where
     go : (g : Option Grant) → asked p d n t s i port ≡ g → g ≡ None
     go None e = refl
     go (Some g) e =
         let ready = asked-ready p d n t s i port g e in
-        absurd (let idle = bare.idle port g.channel link none in let active = ready.active in cc (idle, active))
+        absurd (let idle = bare.idle port g.channel link none ready.in_range in let active = ready.active in cc (idle, active))
 
 asked-there : (p : Plan) (d n : ℕ) (t : ℤ) (a b : Tile) (i j : TileIn) (port : ℕ) → AreTwins p d n a b i j → IsOutput p n port → asked p d n t a i port ≡ asked p d n t b j port
 unfolding asked

@@ -8,14 +8,14 @@ use Rattle.noc_model.specs.Events.{cycle_events, events_from}
 use Rattle.noc_model.specs.Driver.{Driver, driven, next_states, driven_events, driven_state, driver_states}
 use Rattle.noc_model.specs.Same.{IsSameState, IsBareState}
 use Rattle.noc_model.specs.Reached.{IsReached}
-use Rattle.noc_model.proofs.OwnPart.{AreSame}
+use Rattle.noc_model.proofs.OwnAttachments.{AreSame}
 use Rattle.noc_model.proofs.SameStates.{same-step, bare-step, events-same, next_states-same, driven-alike}
 use Rattle.noc_model.proofs.Reached.{reached-next, placed}
 
 -- a run's state, and another that is the same at each place that there is
 pub record AreTwinStates (p : Plan) (d t : ℕ) (a b : State) : Type 0 where
   pub reached : IsReached p d (pos t) a
-  pub bare : IsBareState p b
+  pub bare : IsBareState p d b
   pub same : IsSameState p d a b
 
 -- so are they after a step

@@ -5,20 +5,20 @@ use Rattle.std.proofs.lemmas.Bool.Decides.{nat_tests}
 use Rattle.noc_model.specs.declared.Flit.{Flit}
 use Rattle.noc_model.specs.declared.Host.{Host}
 use Rattle.noc_model.specs.declared.Stage.TheVariants.{Idle}
-use Rattle.noc_model.specs.Plan.{Plan, tiles, hosts, lanes}
+use Rattle.noc_model.specs.Plan.{Plan, tiles, hosts, lanes, in_channels, attach_of}
 use Rattle.noc_model.specs.Sound.{IsSound}
 use Rattle.noc_model.specs.Place.{neighbour, opposite}
 use Rattle.noc_model.specs.Tile.{Tile, TileIn}
 use Rattle.noc_model.specs.Step.{is_open, next_stage, routed, comes_in, leaves, one_if, tile_step}
 use Rattle.noc_model.specs.Run.{State, Input, last_place, arrival, return_of, fed, step}
 use Rattle.noc_model.specs.Events.{ejected_of, offer_events, drop_events, got_events, tile_events, tabulate, cycle_events}
-use Rattle.noc_model.specs.Driver.{Driver, number_of, driven, after_taken, after_got, next_state, next_states}
+use Rattle.noc_model.specs.Driver.{Driver, offer_at, hears_at, driven, after_taken, after_got, next_state, next_states}
 use Rattle.noc_model.specs.Same.{IsSameTile, IsSameState, IsSameIn, IsBareTile, IsPlacedTile, IsPlacedState, IsBareState}
 use Rattle.noc_model.proofs.Coords.{positive}
 use Rattle.noc_model.proofs.Links.{link-from}
-use Rattle.noc_model.proofs.HostTiles.{attached, host-within, host-hosted}
+use Rattle.noc_model.proofs.HostTiles.{host-within, host-hosted, hosts-inside}
 use Rattle.noc_model.proofs.StateKept.{neighbour-inside, arrival-none}
-use Rattle.noc_model.proofs.OwnPart.{AreSame, flat_map-same}
+use Rattle.noc_model.proofs.OwnAttachments.{AreSame, flat_map-same}
 use Rattle.noc_model.proofs.SamePlaces.{AreTwins, twins-step, open-same, then-same}
 
 -- ---- what comes in
@@ -58,7 +58,7 @@ fed-nothing p d n s x away = ap (λ b. if b then x.offer n else None) away
 
 -- ---- the step
 
-twins-at : (p : Plan) (d n : ℕ) (a b : State) (x y : Input) → IsSound p → n < tiles p → IsSameState p d a b → AreSame p d x y → IsPlacedState p d a → IsBareState p b
+twins-at : (p : Plan) (d n : ℕ) (a b : State) (x y : Input) → IsSound p → n < tiles p → IsSameState p d a b → AreSame p d x y → IsPlacedState p d a → IsBareState p d b
     → AreTwins p d n (a n) (b n) (fed p d a x n) (fed p d b y n)
 twins-at p d n a b x y sound inside same fit placed bare = record {
   same = same n inside;
@@ -69,7 +69,7 @@ twins-at p d n a b x y sound inside same fit placed bare = record {
 }
 
 -- steps from the same places, with the same inputs at the tiles that host the domain, come to the same places
-pub same-step : (p : Plan) (d : ℕ) (t : ℤ) (a b : State) (x y : Input) → IsSound p → IsSameState p d a b → AreSame p d x y → IsPlacedState p d a → IsBareState p b
+pub same-step : (p : Plan) (d : ℕ) (t : ℤ) (a b : State) (x y : Input) → IsSound p → IsSameState p d a b → AreSame p d x y → IsPlacedState p d a → IsBareState p d b
     → IsSameState p d (step p d t a x) (step p d t b y)
 unfolding step
 same-step p d t a b x y sound same fit placed bare n inside =
@@ -82,20 +82,20 @@ drop-nothing : (b : Bool) → drop (one_if b) no_flits ++ no_flits ≡ no_flits
 drop-nothing true = refl
 drop-nothing false = refl
 
-bare-tile : (p : Plan) (d n : ℕ) (t : ℤ) (s : Tile) (i : TileIn) → ((port : ℕ) → neighbour p n port ≡ None → i.arrives port ≡ None) → IsBareTile p n s
-    → IsBareTile p n (tile_step p d n t s i)
+bare-tile : (p : Plan) (d n : ℕ) (t : ℤ) (s : Tile) (i : TileIn) → ((port : ℕ) → neighbour p n port ≡ None → i.arrives port ≡ None) → IsBareTile p d n s
+    → IsBareTile p d n (tile_step p d n t s i)
 unfolding tile_step
 bare-tile p d n t s i none bare = record {
-  empty = λ port c link away. empty port c link away;
-  idle = λ port c link away. ap (next_stage p d n t s i port c) (bare.idle port c link away) ∙ ap (λ fs. routed p n fs Idle) (bare.empty port c link away);
+  empty = λ port c link away below. empty port c link away below;
+  idle = λ port c link away below. ap (next_stage p d n t s i port c) (bare.idle port c link away below) ∙ ap (λ fs. routed p n fs Idle) (bare.empty port c link away below);
 }
   where
-    empty : (port c : ℕ) → port ≢ 0 → neighbour p n port ≡ None → drop (one_if (leaves p d n t s i port c)) (s.queue port c) ++ comes_in p d s i port c ≡ []
-    empty zero c link away = absurd (link refl)
-    empty (suc port) c link away = rw (bare.empty (suc port) c link away, none (suc port) away) (drop-nothing (leaves p d n t s i (suc port) c))
+    empty : (port c : ℕ) → port ≢ 0 → neighbour p n port ≡ None → c < in_channels p d port → drop (one_if (leaves p d n t s i port c)) (s.queue port c) ++ comes_in p d s i port c ≡ []
+    empty zero c link away below = absurd (link refl)
+    empty (suc port) c link away below = rw (bare.empty (suc port) c link away below, none (suc port) away) (drop-nothing (leaves p d n t s i (suc port) c))
 
 -- ports without a link stay empty
-pub bare-step : (p : Plan) (d : ℕ) (t : ℤ) (s : State) (x : Input) → IsBareState p s → IsBareState p (step p d t s x)
+pub bare-step : (p : Plan) (d : ℕ) (t : ℤ) (s : State) (x : Input) → IsBareState p d s → IsBareState p d (step p d t s x)
 unfolding step
 bare-step p d t s x bare n inside = bare-tile p d n t (s n) (fed p d s x n) (λ port none. arrival-none p s n port none) (bare n inside)
 
@@ -109,10 +109,6 @@ tile_events-same p d t n a b x y same fit placed here =
     ∙ ap (λ r. offer_events t n d (is_open p (b n)) (y.offer n) ++ drop_events t n d r ++ got_events t n d (x.hears n) (ejected_of (a n).ejected)) (same.dropped here)
     ∙ ap (λ h. offer_events t n d (is_open p (b n)) (y.offer n) ++ drop_events t n d (b n).dropped ++ got_events t n d h (ejected_of (a n).ejected)) (fit.hears n here)
     ∙ ap (λ f. offer_events t n d (is_open p (b n)) (y.offer n) ++ drop_events t n d (b n).dropped ++ got_events t n d (y.hears n) (ejected_of f)) (same.ejected here)
-
--- a tile that hosts a domain is there
-pub hosts-inside : (p : Plan) (n d : ℕ) → IsSound p → hosts p n d ≡ true → n < tiles p
-hosts-inside p n d sound here = (host-within p _ _ sound (attached p n d here)).0
 
 pub events-same : (p : Plan) (d t : ℕ) (a b : State) (x y : Input) → IsSound p → IsSameState p d a b → AreSame p d x y → IsPlacedState p d a
     → cycle_events p d t a x ≡ cycle_events p d t b y
@@ -151,6 +147,14 @@ next_states-same p d v states others t a b sound same placed alike j =
 -- a driver does the same from the same states
 pub driven-alike : (p : Plan) (d : ℕ) (v : Driver) (states others : ℕ → List ℕ) (t : ℕ) → ((j : ℕ) → states j ≡ others j) → AreSame p d (driven p d v states t) (driven p d v others t)
 driven-alike p d v states others t alike = record {
-  offer = λ n here. ap (λ state. v.offer (number_of p d n) state t) (alike (number_of p d n));
-  hears = λ n here. ap (λ state. v.hears (number_of p d n) state t) (alike (number_of p d n));
+  offer = λ n here. offer (attach_of p n d);
+  hears = λ n here. hears (attach_of p n d);
 }
+  where
+    offer : (o : Option ℕ) → offer_at v states t o ≡ offer_at v others t o
+    offer None = refl
+    offer (Some j) = ap (λ state. v.offer j state t) (alike j)
+
+    hears : (o : Option ℕ) → hears_at v states t o ≡ hears_at v others t o
+    hears None = refl
+    hears (Some j) = ap (λ state. v.hears j state t) (alike j)

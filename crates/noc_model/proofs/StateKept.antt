@@ -8,7 +8,9 @@ use Rattle.noc_model.specs.declared.plan.DomainPart.{DomainPart}
 use Rattle.noc_model.specs.declared.LinkFlit.{LinkFlit}
 use Rattle.noc_model.specs.Plan.{Plan, tiles, channels}
 use Rattle.noc_model.specs.Sound.{IsSound}
-use Rattle.noc_model.specs.Place.{coords_in, tile_in, Way, Local, Plus, Minus, way_of, side, coord, has_link, tile_that_way, neighbour, opposite, next_in, last_in}
+use Rattle.noc_model.specs.declared.ways.Way.{Way}
+use Rattle.noc_model.specs.declared.ways.Way.TheVariants.{Local, Plus, Minus}
+use Rattle.noc_model.specs.Place.{coords_in, tile_in, way_of, side, coord, has_link, tile_that_way, neighbour, opposite, next_in, last_in}
 use Rattle.noc_model.specs.Run.{State, Input, start, step, state_from, run, arrival, last_place, fed}
 use Rattle.noc_model.specs.SoundState.{GoesHome, IsSoundTile, IsSoundState}
 use Rattle.noc_model.proofs.Coords.{AllPositive, positive, within-set, within-coords_in, next-below, last-below}

@@ -1,8 +1,9 @@
 -- Which input channel holds an output channel.
-use Rattle.std.specs.Prelude.{◌≡◌, ◌≢◌, ℕ, ◌*◌, ◌/◌, ◌%◌, ◌<◌, nat_lt, ◌==◌, ◌&&◌, Bool, true, false, Option, None}
+use Rattle.std.specs.Prelude.{◌≡◌, ◌≢◌, ℕ, ◌<◌, nat_lt, ◌==◌, ◌&&◌, Bool, true, false, Option, None}
 use Rattle.noc_model.specs.declared.Stage.{Stage}
 use Rattle.noc_model.specs.declared.Stage.TheVariants.{Idle, Routed, Active}
-use Rattle.noc_model.specs.Plan.{Plan, ports, lanes, in_channels}
+use Rattle.noc_model.specs.Plan.{Plan, ports, in_channels}
+use Rattle.noc_model.specs.Inputs.{input_count, input_port, input_channel}
 use Rattle.noc_model.specs.Place.{neighbour}
 use Rattle.noc_model.specs.Pick.{least}
 use Rattle.noc_model.specs.Tile.{Tile}
@@ -38,10 +39,13 @@ goes_on Idle o w = false
 goes_on (Routed to) o w = false
 goes_on (Active to v) o w = (to == o) && (v == w)
 
--- whether the place, a port's number times the lanes plus a channel, is of an input channel that does
+-- whether the packet of the input at place k does
 abbrev pub is_holding : Plan → ℕ → Tile → ℕ → ℕ → ℕ → Bool
-is_holding p d s o w k = nat_lt (k % lanes p d) (in_channels p d (k / lanes p d)) && goes_on (s.stage (k / lanes p d) (k % lanes p d)) o w
+is_holding p d s o w k =
+    let port : ℕ = input_port p d k in
+    let c : ℕ = input_channel p d k in
+    nat_lt c (in_channels p d port) && goes_on (s.stage port c) o w
 
 -- the place that holds channel w of output o
 abbrev pub holder_of : Plan → ℕ → Tile → ℕ → ℕ → Option ℕ
-holder_of p d s o w = least (ports p * lanes p d) (is_holding p d s o w)
+holder_of p d s o w = least (input_count p d) (is_holding p d s o w)

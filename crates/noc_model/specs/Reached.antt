@@ -6,6 +6,7 @@ use Rattle.noc_model.specs.SoundState.{IsSoundTile}
 use Rattle.noc_model.specs.Holder.{IsHeldState}
 use Rattle.noc_model.specs.Same.{GoesOn, IsUnattached}
 
+-- the state is one that a run of the domain comes to, in cycle t
 pub record IsReached (p : Plan) (d : ℕ) (t : ℤ) (s : State) : Type 0 where
   pub sound : (n : ℕ) → IsSoundTile p d n t (s n)
   pub held : IsHeldState p d s

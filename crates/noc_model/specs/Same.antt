@@ -38,9 +38,9 @@ pub record IsSameIn (p : Plan) (d n : ℕ) (i j : TileIn) : Type 0 where
   pub hears : hosts p n d ≡ true → i.hears ≡ j.hears
 
 -- a port without a link has no flits and no packets
-pub record IsBareTile (p : Plan) (n : ℕ) (s : Tile) : Type 0 where
-  pub empty : (port c : ℕ) → port ≢ 0 → neighbour p n port ≡ None → s.queue port c ≡ []
-  pub idle : (port c : ℕ) → port ≢ 0 → neighbour p n port ≡ None → s.stage port c ≡ Idle
+pub record IsBareTile (p : Plan) (d n : ℕ) (s : Tile) : Type 0 where
+  pub empty : (port c : ℕ) → port ≢ 0 → neighbour p n port ≡ None → c < in_channels p d port → s.queue port c ≡ []
+  pub idle : (port c : ℕ) → port ≢ 0 → neighbour p n port ≡ None → c < in_channels p d port → s.stage port c ≡ Idle
 
 -- the packet of a channel goes by a link, and not out of the network
 abbrev pub GoesOn : Stage → Type 0
@@ -50,7 +50,7 @@ GoesOn (Active o w) = o ≢ 0
 
 -- what a step needs of the tile: outputs and the current channel are there, and where the domain isn't hosted all packets go on
 pub record IsPlacedTile (p : Plan) (d n : ℕ) (s : Tile) : Type 0 where
-  pub bare : IsBareTile p n s
+  pub bare : IsBareTile p d n s
   pub stages : (port c : ℕ) → HasOutput p d n (s.stage port c)
   pub current : s.current < channels p d
   pub away : hosts p n d ≡ false → (port c : ℕ) → GoesOn (s.stage port c)
@@ -59,8 +59,9 @@ pub record IsPlacedTile (p : Plan) (d n : ℕ) (s : Tile) : Type 0 where
 abbrev pub IsPlacedState : Plan → ℕ → State → Type 0
 IsPlacedState p d s = (n : ℕ) → n < tiles p → IsPlacedTile p d n (s n)
 
-abbrev pub IsBareState : Plan → State → Type 0
-IsBareState p s = (n : ℕ) → n < tiles p → IsBareTile p n (s n)
+-- the ports without a link of the tiles that there are have nothing
+abbrev pub IsBareState : Plan → ℕ → State → Type 0
+IsBareState p d s = (n : ℕ) → n < tiles p → IsBareTile p d n (s n)
 
 -- a tile that doesn't host the domain has nothing at its attachment, and no flit in the lists of its local port
 pub record IsUnattached (s : Tile) : Type 0 where

@@ -4,8 +4,11 @@ ghost use Rattle.std.specs.Prelude.{◌≡◌, ◌<◌, ◌+◌, ◌+ℤ◌, ℕ
 ghost use Rattle.noc_model.specs.declared.Flit.{Flit};
 ghost use Rattle.noc_model.specs.Plan.{Plan, tiles, hop};
 ghost use Rattle.noc_model.specs.Sound.{IsSound};
+ghost use Rattle.noc_model.specs.OwnPart.{HaveOwnPart};
 ghost use Rattle.noc_model.specs.Place.{neighbour, is_wrap, owner};
 ghost use Rattle.noc_model.specs.Run.{Input, start, run};
+ghost use Rattle.noc_model.specs.Events.{events_from};
+ghost use Rattle.noc_model.specs.Outs.{outs};
 ghost use Rattle.noc_model.specs.Walk.{Stop, stop_at, next_stop, out_of, out_rank};
 ghost use Rattle.noc_model.specs.Laws.{channel_sum};
 ghost use Rattle.noc_model.specs.SoundState.{IsSoundState};
@@ -54,4 +57,13 @@ pub fn whole_packets()
     ensures entered { (p : Plan) (d : ℕ) (inputs : List Input) (n c : ℕ) → AreWholePackets (entered_by p d 0 (start p) inputs n c) }
     ensures delivered { (p : Plan) (d : ℕ) (inputs : List Input) (n : ℕ) → IsSound p → d < length p.domains → n < tiles p
         → AreWholePackets (delivered_to p d 0 (start p) inputs n) }
+{}
+
+/// Isolation of the plan. A domain's network reads nothing of a plan but the domain's own part: in two plans that have one own
+/// part of a domain the same inputs give the domain the same states, outputs and events.
+pub fn own_part()
+    ensures states { (p q : Plan) (d : ℕ) (inputs : List Input) → HaveOwnPart p q d → run p d inputs ≡ run q d inputs }
+    ensures outputs { (p q : Plan) (d : ℕ) (inputs : ℕ → Input) → HaveOwnPart p q d → outs p d inputs ≡ outs q d inputs }
+    ensures events { (p q : Plan) (d : ℕ) (inputs : List Input) → HaveOwnPart p q d
+        → events_from p d 0 (start p) inputs ≡ events_from q d 0 (start q) inputs }
 {}

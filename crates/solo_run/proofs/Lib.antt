@@ -5,7 +5,6 @@ pub mod Outs
 pub mod Rows
 pub mod Made
 pub mod Told
-pub mod Links
 pub mod Classes
 pub mod Twins
 pub mod Nets

@@ -7,7 +7,7 @@ use Rattle.noc_model.specs.declared.Ejected.{Ejected}
 use Rattle.noc_model.specs.Plan.{Plan}
 use Rattle.noc_model.specs.Run.{start}
 use Rattle.noc_model.specs.Driver.{Driver, driven_events}
-use Rattle.noc_model.proofs.OwnPart.{IsOwn, DoAlike, driven_events-same}
+use Rattle.noc_model.proofs.OwnAttachments.{IsOwn, DoAlike, driven_events-same}
 use Rattle.trace_read.specs.declared.entries.Entry.{Entry}
 use Rattle.trace_read.specs.Restrict.{is_domain, of_domain}
 use Rattle.tile_drive.specs.TraceDriver.{trace_driver, untaken}
