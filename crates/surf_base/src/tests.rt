@@ -15,7 +15,7 @@ fn bytes_are_a_list(rt: HostRuntime) -> Result<(), Fail> {
     assert_eq!(rt; other.as_slice(), copy.as_slice());
     let mut words: Seq<u32> = Seq::with_capacity(rt.alloc(), 3)?;
     words.push(5)?;
-    assert_eq!(rt; words.as_slice(), &[5]);
+    assert_eq!(rt; words.as_slice(), [5].as_slice());
     Ok(())
 }
 

@@ -7,7 +7,7 @@ ghost use Rattle.cycle_sim.specs.Net.{IsBuilt};
 ghost use Rattle.surf_cli.specs.Simulate.{AreAlone, reports_text};
 
 use cycle_sim::{Net, run};
-use domain_report::report;
+use domain_report::put_report;
 use noc_model::Plan;
 use std::alloc::{AllocError, Global};
 use surf_base::{Block, Failed, Sink};
@@ -42,7 +42,7 @@ pub(crate) fn put_reports<O: Sink>(
         (stream (O.written out.new) block.new (O.faults out.new)) (reports_text plan.now es cycles) }
 {
     for d in 0..plan.domains() {
-        match report(block, out, plan, events, d) {
+        match put_report(block, out, plan, events, d) {
             Ok(()) => {}
             Err(fault) => return Err(fault),
         }
