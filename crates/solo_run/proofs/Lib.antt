@@ -11,5 +11,3 @@ pub mod Nets
 pub mod Hosted
 pub mod Reached
 pub mod Rounds
-pub mod FiveSound
-pub mod SplitSound

@@ -24,7 +24,7 @@ pub use mem_files::MemFiles;
 pub use mem_sink::MemSink;
 pub use numbers::{decimal, hex8, read_decimal, read_hex};
 pub use outside::{Failed, Files, Sink};
-pub use places::{put_at, put_number_at};
+pub use places::{put_at, put_labelled_at, put_number_at};
 pub use reading::{TakeFault, read_whole};
 pub use real::{RealFiles, RealSink};
 pub use seq::{Bytes, Seq};
