@@ -1,2 +1,4 @@
+pub mod Blocks
+pub mod Listed
 pub mod PortRows
 pub mod ReplayRows

@@ -1,4 +1,5 @@
 pub mod Ports
+pub mod PortSpec
 pub mod Shape
 pub mod Replayed
 pub mod Right

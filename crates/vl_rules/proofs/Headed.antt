@@ -3,15 +3,7 @@ use Rattle.std.proofs.Common.{◌≡◌, ℕ, zero, suc, ◌+◌, ◌-◌, ◌<�
 use Rattle.std.specs.Prelude.{option_map}
 use Rattle.std.proofs.lemmas.List.{length-map}
 use Rattle.std.proofs.lemmas.Option.{slice_get-map, slice_get_read}
-
-pub front : {A : Type 0} (xs ys : List A) (i : ℕ) → i < length xs → slice_get (xs ++ ys) i ≡ slice_get xs i
-front [] ys i h = absurd (omega arith)
-front (x ∷ xs) ys zero h = refl
-front (x ∷ xs) ys (suc i) h = front xs ys i (omega arith)
-
-pub behind : {A : Type 0} (xs ys : List A) (i : ℕ) → slice_get (xs ++ ys) (length xs + i) ≡ slice_get ys i
-behind [] ys i = let e : 0 + i ≡ i = omega arith in ap (slice_get ys) e
-behind (x ∷ xs) ys i = let e : suc (length xs) + i ≡ suc (length xs + i) = omega arith in ap (slice_get (x ∷ (xs ++ ys))) e ∙ behind xs ys i
+use Rattle.vl_model.proofs.Indexed.{front, behind}
 
 pub mapped : {P Q : Type 0} (f : P → Q) (ps : List P) (i : ℕ) (x : P) → i < length ps → x ≡ get_or ps i x → slice_get (map f ps) i ≡ Some (f x)
 mapped f ps i x h e = slice_get-map f ps i ∙ ap (option_map f) (slice_get_read ps (length ps) i x refl h e)

@@ -25,3 +25,6 @@ mod widths;
 
 pub use judging::rules;
 pub use sound::Sound;
+
+#[cfg(test)]
+mod tests;
