@@ -3,3 +3,5 @@ pub mod Judged
 pub mod Sound
 mod Least
 mod Rows
+pub mod Upgraded
+pub mod UpgradedTexts

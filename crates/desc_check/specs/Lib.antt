@@ -3,3 +3,4 @@ pub mod Network
 pub mod Faults
 pub mod Accepted
 pub mod Line
+pub mod Upgrade

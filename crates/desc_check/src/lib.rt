@@ -22,11 +22,13 @@ mod slots;
 #[cfg(test)]
 mod tests;
 mod tiles;
+mod upgrade;
 mod words;
 
 use noc_desc::{DescFault, Draft};
 use noc_model::{Host, Parts, Plan};
 use std::alloc::Global;
+pub use upgrade::draft_of;
 
 /// The first fault of a draft's values and lists: all but those of the plan's sizes and of the slots.
 fn lists_fault(draft: &Draft) -> Option<DescFault>

@@ -1,2 +1,4 @@
 pub mod First
 mod Rows
+pub mod Written
+pub mod ReadBack

@@ -2,3 +2,4 @@ pub mod Keys
 pub mod Values
 pub mod Faults
 pub mod Draft
+pub mod Document

@@ -111,7 +111,7 @@ pub(crate) fn keys(kind: Kind) -> &'static [Key]
 }
 
 /// How the key is written.
-fn name(key: Key) -> &'static str
+pub(crate) fn name(key: Key) -> &'static str
     ensures { result.now ≡ name key }
 {
     match key {

@@ -17,12 +17,14 @@ mod lists;
 #[cfg(test)]
 mod tests;
 mod values;
+mod write;
 
 pub use lists::{DraftDomains, DraftRanges, DraftTiles, Names, Nums};
 use std::alloc::{AllocError, Global};
 use surf_base::Bytes;
 use thiserror::Error;
 use toml::Table;
+pub use write::write_draft;
 
 /// What is wrong with a description, in the order of the faults' numbers, from 1. Indices count
 /// from 0.

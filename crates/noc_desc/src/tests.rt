@@ -1,4 +1,11 @@
-use super::{DescFault, read_draft};
+ghost use Rattle.std.specs.Prelude.{IfOk};
+ghost use Rattle.noc_desc.specs.Document.{AreTexts};
+
+use super::{
+    Bytes, DescFault, Draft, DraftDomains, DraftRange, DraftRanges, DraftTiles, Names, Nums,
+    read_draft, write_draft,
+};
+use std::alloc::{AllocError, Global};
 use std::test::Fail;
 
 const HEAD: &str = "version = 1\nshape = \"mesh\"\ndims = [2]\nstages = 1\nbuffer = 2\n";
@@ -76,5 +83,42 @@ fn answers_the_first_fault(rt: HostRuntime) -> Result<(), Fail> {
     }
     let bytes = [b'#', 0xff];
     assert!(rt; matches!(read_draft(alloc, bytes.as_slice()), Err(DescFault::NotToml)));
+    Ok(())
+}
+
+/// A draft of two tiles, with a range and no domains.
+fn two_tiles(alloc: Global) -> Result<Draft, AllocError>
+    ensures { IfOk result AreTexts }
+{
+    let mut dims = Nums::new(alloc);
+    dims.push(2)?;
+    let mut ranges = DraftRanges::new(alloc);
+    ranges.push(DraftRange {
+        tile: 1,
+        first: 256,
+        last: 511,
+    })?;
+    Ok(Draft {
+        version: 2,
+        shape: Bytes::from_slice(alloc, b"mesh")?,
+        dims,
+        stages: 1,
+        buffer: 2,
+        domains: DraftDomains::new(alloc),
+        tiles: DraftTiles::new(alloc),
+        ranges,
+        slots: Names::new(alloc),
+    })
+}
+
+#[test]
+fn a_range_is_written_after_the_values(rt: HostRuntime) -> Result<(), Fail> {
+    let alloc = rt.alloc();
+    let draft = two_tiles(alloc)?;
+    let bytes = write_draft(alloc, &draft)?;
+    let text =
+        "buffer = 2\ndims = [2]\ndomain = []\nshape = \"mesh\"\nslots = []\nstages = 1\ntile = []\n\
+version = 2\n\n[[range]]\nfirst = 256\nlast = 511\ntile = 1\n";
+    assert_eq!(rt; bytes.as_slice(), text.as_bytes());
     Ok(())
 }

@@ -4,9 +4,13 @@ use Rattle.noc_model.specs.Plan.{Plan}
 use Rattle.trace_read.specs.declared.entries.Entry.{Entry}
 use Rattle.surf_cli.specs.declared.statuses.End.{End}
 use Rattle.surf_cli.specs.Contents.{Contents}
-use Rattle.surf_cli.specs.Jobs.{Simulate}
+use Rattle.std.specs.Prelude.{Some}
+use Rattle.noc_desc.specs.Draft.{table_of}
+use Rattle.noc_desc.specs.Document.{document}
+use Rattle.desc_check.specs.Upgrade.{upgrade_of}
+use Rattle.surf_cli.specs.Jobs.{Simulate, Upgrade}
 use Rattle.surf_cli.specs.Simulate.{reports_text}
-use Rattle.surf_cli.specs.Meaning.{Outcome, Does, Exactly, with_plan, with_built, with_trace, over}
+use Rattle.surf_cli.specs.Meaning.{Outcome, Does, Exactly, UpgradeOf, with_plan, with_built, with_trace, over}
 use Rattle.surf_cli.specs.Answers.{Makes, IsRefused}
 
 -- the bytes are exactly those that are to be written
@@ -41,3 +45,11 @@ reports-made held cycles description trace bytes p es e f plan built entries is 
     (simulated-is held cycles description p e plan built
     ∙ ap (λ t. with_trace p t (λ xs. Does (Exactly (reports_text p xs cycles)))) (sym f)
     ∙ entries (λ xs. Does (Exactly (reports_text p xs cycles)))) is
+
+-- ---- an upgrade
+
+-- whose document is made
+pub upgrade-made : (held : Contents) (description bytes : List ℕ) (p : Plan) → description ≡ held.description → ((next : Plan → Outcome) → with_plan description next ≡ next p)
+    → table_of bytes ≡ Some (document (upgrade_of p)) → Makes (over Upgrade held) bytes
+upgrade-made held description bytes p e plan right =
+    record { work = UpgradeOf p; meant = ap (λ d. with_plan d (λ q. Does (UpgradeOf q))) (sym e) ∙ plan (λ q. Does (UpgradeOf q)); right = right }

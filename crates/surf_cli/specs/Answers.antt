@@ -22,6 +22,7 @@ text_of (text.Table table) = schedule_text table.plan table.cycles
 text_of (text.Accepted p) = accepted_text p
 text_of (text.Routes p) = routes_text p
 text_of (text.Reports reports) = reports_of reports.plan (events_of reports.events)
+text_of (text.Bytes bytes) = bytes.items
 
 -- the bytes are right for what is to be written
 pub record Makes (m : Outcome) (bytes : List ℕ) : Type 0 where

@@ -5,7 +5,7 @@ use Rattle.surf_base.specs.Numbers.{decimal_in}
 use Rattle.surf_cli.specs.declared.files.FileKind.TheVariants.{Description, Trace}
 use Rattle.surf_cli.specs.Limits.{table_cycles, run_cycles}
 use Rattle.surf_cli.specs.Files.{NamedFile, file_of}
-use Rattle.surf_cli.specs.Jobs.{Schedule, Check, Routes, Simulate, Command, command}
+use Rattle.surf_cli.specs.Jobs.{Schedule, Check, Routes, Simulate, Upgrade, Command, command}
 
 -- schedule DESC CYCLES
 abbrev pub schedule_words : List (List ℕ) → Option Command
@@ -28,6 +28,11 @@ simulate_words (description ∷ trace ∷ cycles ∷ []) =
     option_map (λ n. command (file_of Description description ∷ file_of Trace trace ∷ []) (Simulate n)) (decimal_in run_cycles cycles)
 simulate_words _ = None
 
+-- upgrade DESC
+abbrev pub upgrade_words : List (List ℕ) → Option Command
+upgrade_words (description ∷ []) = Some (command (file_of Description description ∷ []) Upgrade)
+upgrade_words _ = None
+
 -- the command of a verb and the words after it
 abbrev pub command_by : List ℕ → List (List ℕ) → Option Command
 command_by verb args =
@@ -35,6 +40,7 @@ command_by verb args =
     else if bytes_eq verb (codes "check") then check_words args
     else if bytes_eq verb (codes "routes") then routes_words args
     else if bytes_eq verb (codes "simulate") then simulate_words args
+    else if bytes_eq verb (codes "upgrade") then upgrade_words args
     else None
 
 -- the command that the words are; nothing where they are no row of the table of commands

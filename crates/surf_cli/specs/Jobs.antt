@@ -9,6 +9,7 @@ pub data Job : Type 0 where
   Check : Job
   Routes : Job
   Simulate : (cycles : ℕ) → Job
+  Upgrade : Job
 
 pub record Command : Type 0 where
   pub files : List NamedFile

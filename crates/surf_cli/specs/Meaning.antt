@@ -3,7 +3,9 @@ use Rattle.std.specs.Prelude.{◌≡◌, ℕ, List, ◌∷◌, length, nat_le, i
 use Rattle.std.specs.Str.Lines.{lines}
 use Rattle.noc_model.specs.Plan.{Plan}
 use Rattle.noc_desc.specs.Draft as table
-use Rattle.noc_desc.specs.Draft.{draft_of}
+use Rattle.noc_desc.specs.Draft.{table_of, draft_of}
+use Rattle.noc_desc.specs.Document.{document}
+use Rattle.desc_check.specs.Upgrade.{upgrade_of}
 use Rattle.noc_desc.specs.declared.Draft.{Draft}
 use Rattle.noc_desc.specs.declared.DescFault.{DescFault}
 use Rattle.noc_desc.specs.declared.DescFault.TheVariants.{NotToml}
@@ -20,19 +22,21 @@ use Rattle.surf_cli.specs.declared.refusals.Refusal.{Refusal}
 use Rattle.surf_cli.specs.declared.refusals.Refusal.TheVariants.{Description, NotBuilt, Trace}
 use Rattle.surf_cli.specs.Files.{NamedFile, limit_of}
 use Rattle.surf_cli.specs.Contents.{Contents, nothing, with_content}
-use Rattle.surf_cli.specs.Jobs.{Job, Schedule, Check, Routes, Simulate, Command}
+use Rattle.surf_cli.specs.Jobs.{Job, Schedule, Check, Routes, Simulate, Upgrade, Command}
 use Rattle.surf_cli.specs.Schedule.{schedule_text}
 use Rattle.surf_cli.specs.Accepted.{accepted_text}
 use Rattle.surf_cli.specs.Routes.{routes_text}
 use Rattle.surf_cli.specs.Simulate.{is_built, reports_text}
 
--- what is to be written: these bytes
+-- what is to be written: these bytes, or a document of version 2 that says this plan
 pub data Work : Type 0 where
   Exactly : (bytes : List ℕ) → Work
+  UpgradeOf : (plan : Plan) → Work
 
 -- these bytes are right for what is to be written
 abbrev pub IsRight : Work → List ℕ → Type 0
 IsRight (Exactly right) bytes = bytes ≡ right
+IsRight (UpgradeOf plan) bytes = table_of bytes ≡ Some (document (upgrade_of plan))
 
 -- what a command comes to: a text is written, or the run ends so
 pub data Outcome : Type 0 where
@@ -94,6 +98,7 @@ over Check held = with_plan held.description (λ p. Does (Exactly (accepted_text
 over Routes held = with_plan held.description (λ p. Does (Exactly (routes_text p)))
 over (Simulate cycles) held =
     with_plan held.description (λ p. with_built p (with_trace p held.trace (λ es. Does (Exactly (reports_text p es cycles)))))
+over Upgrade held = with_plan held.description (λ p. Does (UpgradeOf p))
 
 -- what a command goes on to with a file, which is absent or holds some bytes
 abbrev pub with_file : FileKind → Option (List ℕ) → (List ℕ → Outcome) → Outcome

@@ -21,6 +21,8 @@ pub(crate) enum Text {
     Routes(Plan),
     /// The reports of all domains.
     Reports(Reports),
+    /// These bytes.
+    Bytes(Vec<u8>),
 }
 
 impl Text {
@@ -37,6 +39,7 @@ impl Text {
             Text::Accepted(plan) => put_accepted(block, out, &plan),
             Text::Routes(plan) => put_routes(block, out, &plan),
             Text::Reports(reports) => reports.put(block, out),
+            Text::Bytes(bytes) => block.put(out, bytes.as_slice()),
         }
     }
 }

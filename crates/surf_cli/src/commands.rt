@@ -11,6 +11,7 @@ mod check;
 mod routes;
 mod schedule;
 mod simulate;
+mod upgrade;
 
 use crate::answers::{Answer, Text};
 use crate::contents::Contents;
@@ -38,6 +39,8 @@ pub(crate) enum Job {
         /// The number of cycles.
         cycles: u32,
     },
+    /// A description of version 2 with the same plan.
+    Upgrade,
 }
 
 /// What the words ask for.
@@ -63,6 +66,7 @@ pub(crate) fn command_of(words: &[String]) -> Option<Command<'_>>
         "check" => check::words(args),
         "routes" => routes::words(args),
         "simulate" => simulate::words(args),
+        "upgrade" => upgrade::words(args),
         _ => None,
     }
 }
@@ -78,6 +82,7 @@ fn text_for(alloc: Global, asked: Job, contents: Contents) -> Result<Text, End>
         Job::Check => check::make(alloc, contents),
         Job::Routes => routes::make(alloc, contents),
         Job::Simulate { cycles } => simulate::make(alloc, contents, cycles),
+        Job::Upgrade => upgrade::make(alloc, contents),
     }
 }
 

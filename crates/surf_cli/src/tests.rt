@@ -31,6 +31,14 @@ const NUMBER_AS_DOMAIN: &str =
 const CUBE: &str = "version = 2\nshape = \"mesh\"\ndims = [2, 2, 2]\nstages = 1\nbuffer = 2\n\
 domain = [{name = \"a\", channels = 1}]\nslots = [\"a\"]\n";
 
+const TOO_MANY_TILES: &str =
+    "version = 2\nshape = \"mesh\"\ndims = [16, 16, 2]\nstages = 1\nbuffer = 2\n\
+domain = [{name = \"a\", channels = 1}]\nslots = [\"a\"]\n";
+
+const THREE_SIDES: &str =
+    "version = 1\nshape = \"mesh\"\ndims = [1, 1, 1]\nstages = 1\nbuffer = 2\n\
+domain = [{name = \"a\", channels = 1}]\n";
+
 const RING_OF_FOUR: &str = "version = 1\nshape = \"torus\"\ndims = [4]\nstages = 1\nbuffer = 2\n\
 domain = [{name = \"a\", channels = 1}]\n";
 
@@ -151,6 +159,20 @@ fn each_command_gives_its_status_and_bytes(rt: HostRuntime) -> Result<(), Fail> 
             "",
             "surf: description fault 4 0 0 5\n",
         ),
+        (
+            "check d",
+            Some(TOO_MANY_TILES),
+            Status::Description,
+            "",
+            "surf: description fault 7\n",
+        ),
+        (
+            "upgrade d",
+            Some(THREE_SIDES),
+            Status::Description,
+            "",
+            "surf: description fault 7\n",
+        ),
         ("check d", None, Status::Read, "", "surf: read failed\n"),
         (
             "check d 1",
@@ -205,6 +227,19 @@ fn routes_take_the_shorter_way_round(rt: HostRuntime) -> Result<(), Fail> {
         assert!(rt; out.as_str().contains(lines), "{lines}");
         assert_eq!(rt; err.as_str(), "");
     }
+    Ok(())
+}
+
+#[test]
+fn an_upgraded_description_says_the_same_plan(rt: HostRuntime) -> Result<(), Fail> {
+    let (status, text, err) = run(&rt, "upgrade d", Some(TWO_TILES.as_bytes()), None, &[], &[])?;
+    assert!(rt; status == Status::Good);
+    assert_eq!(rt; err.as_str(), "");
+    let content = Some(text.as_bytes());
+    let (_, table, _) = run(&rt, "schedule d 2", content, None, &[], &[])?;
+    assert_eq!(rt; table.as_str(), "0 0 1 a\n0 1 2 b\n1 0 1 b\n1 1 2 a\n");
+    let (_, again, _) = run(&rt, "upgrade d", content, None, &[], &[])?;
+    assert_eq!(rt; again.as_str(), text.as_str());
     Ok(())
 }
 
