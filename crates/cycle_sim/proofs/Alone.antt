@@ -1,15 +1,18 @@
 -- The tile of a network of one tile has no links.
-use Rattle.std.proofs.Common.{◌≡◌, ℕ, zero, suc, ◌*◌, ◌<◌, false, ◌&&◌, List, [], ◌∷◌, ◌++◌, length, refl, sym, ap, ◌∙◌, arith, None, if◌then◌else◌}
+use Rattle.std.proofs.Common.{◌≡◌, ℕ, zero, suc, ◌*◌, ◌<◌, false, ◌&&◌, List, [], ◌∷◌, ◌++◌, length, refl, sym, ap, ◌∙◌, subst, arith, None, if◌then◌else◌}
 use Rattle.std.specs.Prelude.{slice_get, slice_index_or, All, pos, option_and_then, is_some}
 use Rattle.noc_model.specs.declared.plan.DomainPart.{DomainPart}
-use Rattle.noc_model.specs.Plan.{Plan, product, channels_in}
-use Rattle.noc_model.specs.Place.{side, neighbour, opposite, has_link, way_of, Way, Local, Plus, Minus}
+use Rattle.noc_model.specs.Plan.{Plan, product, channels_in, hosts, attach_of}
+use Rattle.noc_model.specs.declared.ways.Way.{Way}
+use Rattle.noc_model.specs.declared.ways.Way.TheVariants.{Local, Plus, Minus}
+use Rattle.noc_model.specs.Place.{side, neighbour, opposite, has_link, way_of}
 use Rattle.noc_model.specs.Tile.{Tile, start_tile}
 use Rattle.noc_model.specs.Step.{is_open, is_ready_packet}
 use Rattle.noc_model.specs.Run.{State, fed, arrival, return_of, pulse_from, last_place, step}
-use Rattle.noc_model.specs.Driver.{Driver, driven, after_taken, after_got}
+use Rattle.noc_model.specs.Driver.{Driver, offer_at, hears_at, driven, after_taken, after_got}
 use Rattle.noc_model.specs.Events.{ejected_of}
-use Rattle.cycle_sim.specs.OneTile.{One, start_one, Stands, driven_one, driver_after, seen_one}
+use Rattle.noc_model.proofs.OwnAttachments.{driven-offer, driven-hears}
+use Rattle.cycle_sim.specs.OneTile.{One, next_one, start_one, Stands, driven_one, driver_after, seen_one}
 use Rattle.cycle_sim.specs.Net.{IsBuilt, seen_of}
 use Rattle.cycle_sim.proofs.OneStep.{AllOne, IsSingle, stands-step}
 
@@ -86,8 +89,11 @@ pub stands-driven : (p : Plan) (d t : ℕ) (v : Driver) (states : ℕ → List �
     → Stands (driven_one p v states t d x) (step p d (pos t) s (driven p d v states t) 0)
 unfolding step
 stands-driven p d t v states s x one h =
-    stands-step p d 0 (pos t) (s 0) (fed p d s (driven p d v states t) 0) x one
-    (record { arrives = λ port. no-arrival p s port one.dims; returns = λ port c. no-return p s port c one.dims }) h
+    subst (λ (o : One). Stands o (step p d (pos t) s (driven p d v states t) 0))
+    (ap (λ o. next_one p d o (hosts p 0 d && hears_at v states t (attach_of p 0 d)) x) (driven-offer p d 0 v states t)
+    ∙ ap (λ b. next_one p d (offer_at v states t (attach_of p 0 d)) b x) (driven-hears p d 0 v states t))
+    (stands-step p d 0 (pos t) (s 0) (fed p d s (driven p d v states t) 0) x one
+    (record { arrives = λ port. no-arrival p s port one.dims; returns = λ port c. no-return p s port c one.dims }) h)
 
 -- whether a word is taken
 open-is : (p : Plan) (s : Tile) (x : One) → Stands x s → is_open p s ≡ is_ready_packet x.packet (length x.queue) p.buffer

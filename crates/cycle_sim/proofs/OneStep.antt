@@ -8,7 +8,8 @@ use Rattle.noc_model.specs.declared.Grant.{Grant}
 use Rattle.noc_model.specs.declared.Stage.{Stage}
 use Rattle.noc_model.specs.declared.Stage.TheVariants.{Idle, Routed, Active}
 use Rattle.noc_model.specs.Plan.{Plan, channels, lanes, in_channels, ports}
-use Rattle.noc_model.specs.Place.{route, class_after, way_from, coords_in, is_wrap, port_of, Local}
+use Rattle.noc_model.specs.declared.ways.Way.TheVariants.{Local}
+use Rattle.noc_model.specs.Place.{route, class_after, way_from, coords_in, is_wrap, port_of}
 use Rattle.noc_model.specs.Pick.{pick, least, number_if}
 use Rattle.noc_model.specs.Tile.{Tile, TileIn}
 use Rattle.std.proofs.Math.Nat.{mod-add-div, div-eq_of_lt, mod-eq_of_lt}

@@ -14,7 +14,7 @@ use Rattle.noc_model.specs.Plan.{Plan}
 use Rattle.noc_model.specs.Sound.{IsSound}
 use Rattle.noc_model.specs.Step.{is_open}
 use Rattle.noc_model.specs.Run.{State}
-use Rattle.noc_model.specs.Driver.{Driver, driven}
+use Rattle.noc_model.specs.Driver.{Driver, offer_at, hears_at, driven}
 use Rattle.noc_model.specs.Events.{ejected_of, offer_events, drop_events, got_events, tile_events}
 use Rattle.noc_model.proofs.HostTiles.{host_tiles, number-is}
 use Rattle.tile_drive.specs.declared.cycle_seen.SeenAt.{SeenAt}
@@ -93,8 +93,8 @@ pub seen-tile : (p : Plan) (v : Driver) (t j : ℕ) (h : Host) (s : State) (stat
 seen-tile p v t j h s states sound at =
     ap (λ got. offer_events t h.tile h.domain (is_open p (s h.tile)) (v.offer j (states j) t) ++ drop_events t h.tile h.domain (s h.tile).dropped ++ got)
     (got-heard t h.tile h.domain (v.hears j (states j) t) (ejected_of (s h.tile).ejected))
-    ∙ ap (λ i. offer_events t h.tile h.domain (is_open p (s h.tile)) (v.offer i (states i) t) ++ drop_events t h.tile h.domain (s h.tile).dropped
-    ++ got_events t h.tile h.domain (v.hears i (states i) t) (ejected_of (s h.tile).ejected))
+    ∙ ap (λ o. offer_events t h.tile h.domain (is_open p (s h.tile)) (offer_at v states t o) ++ drop_events t h.tile h.domain (s h.tile).dropped
+    ++ got_events t h.tile h.domain (hears_at v states t o) (ejected_of (s h.tile).ejected))
     (sym (number-is p j h sound at))
 
 -- one attachment more

@@ -11,7 +11,7 @@ use Rattle.noc_model.specs.Driver.{Driver, driven, next_state, driven_events, dr
 use Rattle.noc_model.specs.Events.{tile_events, cycle_events}
 use Rattle.noc_model.proofs.HostTiles.{hosts_of-tiles, host-within}
 use Rattle.noc_model.proofs.Driven.{state-last, states-last, events-last}
-use Rattle.noc_model.proofs.OwnPart.{DoAlike, step-same, driven-same}
+use Rattle.noc_model.proofs.OwnAttachments.{DoAlike, step-same, driven-same}
 use Rattle.tile_drive.specs.declared.cycle_seen.SeenAt.{SeenAt}
 use Rattle.tile_drive.specs.Seen.{seen_at}
 use Rattle.cycle_sim.specs.Net.{Kept, Shows, seen_of}

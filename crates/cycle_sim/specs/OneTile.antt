@@ -6,8 +6,8 @@ use Rattle.noc_model.specs.declared.Stage.{Stage}
 use Rattle.noc_model.specs.declared.Stage.TheVariants.{Idle, Routed, Active}
 use Rattle.noc_model.specs.declared.Packet.{Packet}
 use Rattle.noc_model.specs.declared.Packet.TheVariants.{Between}
-use Rattle.noc_model.specs.Plan.{Plan, hosts}
-use Rattle.noc_model.specs.Driver.{Driver, number_of, after_taken, after_got}
+use Rattle.noc_model.specs.Plan.{Plan, attach_of}
+use Rattle.noc_model.specs.Driver.{Driver, offer_at, hears_at, after_taken, after_got}
 use Rattle.noc_model.specs.Events.{ejected_of}
 use Rattle.tile_drive.specs.declared.cycle_seen.SeenAt.{SeenAt}
 use Rattle.noc_model.specs.Tile.{Tile}
@@ -97,16 +97,9 @@ pub record Stands (x : One) (s : Tile) : Type 0 where
 
 -- ---- driven by a driver
 
--- what the domain's attachment is offered in a cycle, where there is one, and whether it hears
-abbrev pub offer_at : Plan → Driver → (ℕ → List ℕ) → ℕ → ℕ → Option Offer
-offer_at p v states t d = if hosts p 0 d then v.offer (number_of p d 0) (states (number_of p d 0)) t else None
-
-abbrev pub hears_at : Plan → Driver → (ℕ → List ℕ) → ℕ → ℕ → Bool
-hears_at p v states t d = hosts p 0 d && v.hears (number_of p d 0) (states (number_of p d 0)) t
-
 -- the state of a domain after a cycle
 abbrev pub driven_one : Plan → Driver → (ℕ → List ℕ) → ℕ → ℕ → One → One
-driven_one p v states t d x = next_one p d (offer_at p v states t d) (hears_at p v states t d) x
+driven_one p v states t d x = next_one p d (offer_at v states t (attach_of p 0 d)) (hears_at v states t (attach_of p 0 d)) x
 
 -- the state of attachment j of a domain after a cycle
 abbrev pub driver_after : Plan → Driver → ℕ → ℕ → One → List ℕ → List ℕ

@@ -5,7 +5,7 @@ ghost use Rattle.std.specs.Fmt.{decimal as decimal_digits};
 ghost use Rattle.desc_check.specs.Line.{fault_number, indices_of, head_of, spaced, line_of};
 
 use noc_desc::DescFault;
-use surf_base::{put_at, put_number_at};
+use surf_base::{put_at, put_labelled_at, put_number_at};
 
 /// The number of a fault; want of memory has none.
 fn fault_number(fault: &DescFault) -> Option<u64>
@@ -48,8 +48,7 @@ fn put_index(buf: &mut [u8], at: usize, value: u64) -> usize
     ensures written { take result buf.new ≡ take at buf.old ++ 32 ∷ decimal_digits value }
     ensures few { result ≤ at + 21 }
 {
-    let start = put_at(buf, at, b" ".as_slice());
-    put_number_at(buf, start, value)
+    put_labelled_at(buf, at, b" ".as_slice(), value)
 }
 
 /// Writes two numbers, each after a blank.

@@ -10,9 +10,10 @@ ghost use Rattle.desc_check.specs.Accepted.{form_fault, domains_fault, ranges_fa
 
 use crate::form::number_of;
 use crate::words::is_among;
-use noc_desc::{Bytes, Draft, DraftDomain, DraftRange, DraftTile};
+use noc_desc::{Draft, DraftDomain, DraftRange, DraftTile};
 use noc_model::{DomainPart, Host, Parts, Range};
 use std::alloc::{AllocError, Global};
+use surf_base::Bytes;
 
 /// The places of a link.
 fn stages_of(draft: &Draft) -> u32
@@ -47,7 +48,7 @@ fn domain_of(alloc: Global, domain: &DraftDomain) -> Result<DomainPart, AllocErr
     requires { is_within 1 4 domain.now.channels ≡ true }
     ensures { IfOk result (λ x. x ≡ domain_of domain.now) }
 {
-    let name = Bytes::from_slice(alloc, domain.name.as_slice())?;
+    let name = domain.name.copy(alloc)?;
     Ok(DomainPart {
         name,
         channels: domain.channels as u32,

@@ -9,8 +9,8 @@ use noc_model::Kind;
 use surf_base::{Block, Failed, Sink};
 
 /// How many events there are of each kind.
-#[derive(Clone, Copy)]
-pub(crate) struct Counts {
+#[derive(Clone, Copy, Debug, PartialEq, Eq)]
+pub struct Counts {
     pub takes: u64,
     pub waits: u64,
     pub drops: u64,

@@ -1,41 +1,14 @@
 //! Reports of worked events, where domain `a` is the only one of the plan.
 
-ghost use Rattle.std.specs.Prelude.{◌≡◌, IfOk};
-ghost use Rattle.noc_model.specs.PlanOf.{plan_of};
-ghost use Rattle.noc_model.specs.Sound.{IsSound};
+ghost use Rattle.std.specs.Prelude.{◌≡◌};
 
-use crate::report;
-use noc_model::{DomainPart, Ejected, Event, Host, Kind, Parts, Plan, Range};
+use crate::{put_report, report};
+use noc_model::{Ejected, Event, Kind};
 use std::alloc::{AllocError, Global};
 use std::test::Fail;
-use surf_base::{Block, Bytes, MemSink};
+use surf_base::{Block, MemSink};
 use tile_drive::Events;
-
-/// One tile, which hosts the domain `a`.
-fn one_tile(alloc: Global) -> Result<Parts, AllocError>
-    ensures { IfOk result (λ a. IsSound (plan_of a)) }
-{
-    let a = DomainPart {
-        name: Bytes::from_slice(alloc, b"a")?,
-        channels: 1,
-    };
-    Ok(Parts {
-        torus: false,
-        dims: vec![in alloc; 1]?,
-        stages: 1,
-        buffer: 1,
-        domains: vec![in alloc; a]?,
-        hosts: vec![in alloc; Host { tile: 0, domain: 0 }]?,
-        ranges: vec![in alloc;
-            Range {
-                tile: 0,
-                first: 0,
-                last: 1
-            },
-        ]?,
-        slots: vec![in alloc; 0]?,
-    })
-}
+use worked_plans::one_tile;
 
 fn at(cycle: u32, domain: u32, kind: Kind) -> Event
     ensures cycle { result.cycle ≡ cycle }
@@ -81,11 +54,20 @@ fn waited_and_dropped(alloc: Global) -> Result<Events, AllocError> {
 
 /// The report of domain `a`, on a sink that takes at most 5 bytes at a time.
 fn reported(alloc: Global, events: &Events) -> Result<MemSink, Fail> {
-    let plan = Plan::new(one_tile(alloc)?);
+    let plan = one_tile(alloc)?;
+    plan.known();
+    let mut sink = MemSink::new(alloc, 1000, 5, &[])?;
+    report(&plan, events, 0, &mut sink)?;
+    Ok(sink)
+}
+
+/// The same, by way of a block.
+fn gathered(alloc: Global, events: &Events) -> Result<MemSink, Fail> {
+    let plan = one_tile(alloc)?;
     plan.known();
     let mut block = Block::new(alloc)?;
     let mut sink = MemSink::new(alloc, 1000, 5, &[])?;
-    report(&mut block, &mut sink, &plan, events, 0)?;
+    put_report(&mut block, &mut sink, &plan, events, 0)?;
     block.flush(&mut sink)?;
     Ok(sink)
 }
@@ -105,6 +87,7 @@ fn a_report_has_the_events_of_its_domain(rt: HostRuntime) -> Result<(), Fail> {
     ];
     for (events, want) in &rows {
         assert_eq!(rt; reported(alloc, events)?.bytes(), *want);
+        assert_eq!(rt; gathered(alloc, events)?.bytes(), *want);
     }
     Ok(())
 }

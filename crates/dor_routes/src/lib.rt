@@ -5,13 +5,14 @@
 //! channels a packet gets, and when a flit moves, is left to the router above.
 #![tactic(auto)]
 
-ghost use Rattle.std.specs.Prelude.{◌≡◌, ◌≢◌, ◌<◌, ◌≤◌, ◌+◌, ◌-◌, ◌*◌, ◌%◌, length, IsSome, IsTrue, if◌then◌else◌, nat_lt, ◌&&◌};
+ghost use Rattle.std.specs.Prelude.{◌≡◌, ◌≢◌, ◌<◌, ◌≤◌, ◌+◌, ◌-◌, ◌*◌, ◌%◌, length, IsTrue, if◌then◌else◌, nat_lt, ◌&&◌};
 ghost use Rattle.noc_model.specs.Plan.{tiles, ports, classes};
-ghost use Rattle.noc_model.specs.Place.{neighbour, route, class_after, rank, goes_plus, Plus, Minus, way_of, port_of, is_wrap, is_same_dim, are_edges, next_in, last_in, position};
+ghost use Rattle.noc_model.specs.declared.ways.Way.TheVariants.{Plus, Minus};
+ghost use Rattle.noc_model.specs.Place.{route, class_after, rank, goes_plus, is_wrap, is_same_dim, are_edges, next_in, last_in, position};
 
 pub mod laws;
 
-use noc_model::Plan;
+use noc_model::{Plan, Way};
 
 /// The port by which a flit for tile `dest` leaves tile `at`, the local port, 0, where it is there (dimension-order routing:
 /// Dally and Towles, section 8.4). On a torus it goes round a ring the shorter way, and by plus at a tie.
@@ -26,10 +27,10 @@ pub fn route(plan: &Plan, at: u32, dest: u32) -> u32
         let x = plan.coord(at, i);
         let y = plan.coord(dest, i);
         if x != y {
-            return port_in(i, goes_plus(plan.torus(), plan.side(i), x, y));
+            return way_in(i, goes_plus(plan.torus(), plan.side(i), x, y)).port();
         }
     }
-    0
+    Way::Local.port()
 }
 
 /// Whether the way from the coordinate `x` to another, `y`, is by plus.
@@ -46,12 +47,11 @@ fn goes_plus(torus: bool, k: u32, x: u32, y: u32) -> bool
     }
 }
 
-/// The port in dimension `i` by plus or by minus.
-fn port_in(i: u32, plus: bool) -> u32
-    requires { i < 3 }
-    ensures { result ≡ port_of (if plus then Plus i else Minus i) }
+/// The way in dimension `i` by plus or by minus.
+fn way_in(i: u32, plus: bool) -> Way
+    ensures { result ≡ (if plus then Plus i else Minus i) }
 {
-    if plus { 1 + 2 * i } else { 2 + 2 * i }
+    if plus { Way::Plus(i) } else { Way::Minus(i) }
 }
 
 /// The class of the channels in which a packet goes on by `out_port` that came in by `in_port` in class `in_class`
@@ -64,9 +64,11 @@ pub fn class_after(plan: &Plan, at: u32, in_port: u32, in_class: u32, out_port: 
     ensures value { result ≡ class_after plan.now at in_port in_class out_port }
     ensures class { result < classes plan.now }
 {
+    let came = Way::of_port(in_port);
+    let goes = Way::of_port(out_port);
     if is_wrap(plan, at, out_port) {
         1
-    } else if is_same_dim(in_port, out_port) {
+    } else if is_same_dim(came, goes) {
         in_class
     } else {
         0
@@ -80,11 +82,14 @@ fn is_wrap(plan: &Plan, at: u32, port: u32) -> bool
     ensures value { result ≡ is_wrap plan.now at port }
     ensures torus { IsTrue result → IsTrue plan.now.torus }
 {
-    if port == 0 || !plan.torus() {
+    if !plan.torus() {
         return false;
     }
-    let i = (port - 1) / 2;
-    is_over_edge(port % 2 == 1, plan.side(i), plan.coord(at, i))
+    match Way::of_port(port) {
+        Way::Local => false,
+        Way::Plus(i) => is_over_edge(true, plan.side(i), plan.coord(at, i)),
+        Way::Minus(i) => is_over_edge(false, plan.side(i), plan.coord(at, i)),
+    }
 }
 
 /// Whether a step from the coordinate `x` round a ring of `k` goes from edge to edge: in a ring of 2 each does.
@@ -96,36 +101,46 @@ fn is_over_edge(plus: bool, k: u32, x: u32) -> bool
     k == 2 || k > 2 && x == edge
 }
 
-/// Whether both ports are of one dimension.
-fn is_same_dim(a: u32, b: u32) -> bool
-    ensures { result ≡ is_same_dim (way_of a) (way_of b) }
+/// Whether both ways are of one dimension.
+fn is_same_dim(a: Way, b: Way) -> bool
+    ensures { result ≡ is_same_dim a b }
 {
-    a != 0 && b != 0 && (a - 1) / 2 == (b - 1) / 2
+    match (a, b) {
+        (Way::Plus(i) | Way::Minus(i), Way::Plus(j) | Way::Minus(j)) => i == j,
+        _ => false,
+    }
 }
 
-/// The rank of the channels of a class on the link that leaves tile `at` by the port, which has a link. It rises along every
-/// route.
+/// The rank of the channels of a class on the link that leaves tile `at` by the port, below 96; 0 for the local port. It rises
+/// along every route.
 pub fn rank(plan: &Plan, at: u32, out_port: u32, class: u32) -> u32
     requires tile { at < tiles plan.now }
-    requires link { IsSome (neighbour plan.now at out_port) }
+    requires port { out_port < ports plan.now }
     requires class { class < classes plan.now }
     ensures value { result ≡ rank plan.now at out_port class }
     ensures few { result < 96 }
 {
     plan.known();
-    let i = (out_port - 1) / 2;
-    let k = plan.side(i);
-    let x = tiles_behind(out_port % 2 == 1, k, plan.coord(at, i));
-    (2 * i + class) * 16 + position(k, x, class)
+    match Way::of_port(out_port) {
+        Way::Local => 0,
+        Way::Plus(i) => rank_on(i, plan.side(i), plan.coord(at, i), class),
+        Way::Minus(i) => {
+            let k = plan.side(i);
+            rank_on(i, k, k - 1 - plan.coord(at, i), class)
+        }
+    }
 }
 
-/// The tiles behind the one at the coordinate `x`, on a way by plus or by minus that begins at the edge.
-fn tiles_behind(plus: bool, k: u32, x: u32) -> u32
-    requires { x < k }
-    ensures value { result ≡ (if plus then x else k - 1 - x) }
-    ensures below { result < k }
+/// The rank of the channels of a class on the link of dimension `i` that leaves the `x`-th of `k` tiles from the edge on.
+fn rank_on(i: u32, k: u32, x: u32, class: u32) -> u32
+    requires dim { i < 3 }
+    requires within { x < k }
+    requires side { k ≤ 16 }
+    requires class { class < 2 }
+    ensures value { result ≡ (2 * i + class) * 16 + position k x class }
+    ensures few { result < 96 }
 {
-    if plus { x } else { k - 1 - x }
+    (2 * i + class) * 16 + position(k, x, class)
 }
 
 /// How far along its ring of `k` a link stands that leaves the `x`-th tile, in channels of a class.

@@ -20,7 +20,7 @@ mod values;
 
 pub use lists::{DraftDomains, DraftRanges, DraftTiles, Names, Nums};
 use std::alloc::{AllocError, Global};
-pub use surf_base::Bytes;
+use surf_base::Bytes;
 use thiserror::Error;
 use toml::Table;
 

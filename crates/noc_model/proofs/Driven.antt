@@ -1,11 +1,11 @@
 -- The run that a driver makes of a domain, and one cycle more at its end.
-use Rattle.std.proofs.Common.{◌≡◌, ℕ, zero, suc, ◌+◌, List, ◌++◌, sym, ap, ◌∙◌, append_assoc, arith}
+use Rattle.std.proofs.Common.{◌≡◌, ℕ, zero, suc, ◌+◌, List, ◌++◌, length, refl, sym, ap, ◌∙◌, append_assoc, arith}
 use Rattle.std.specs.Prelude.{pos}
 use Rattle.std.proofs.lemmas.List.{append-nil}
 use Rattle.noc_model.specs.Plan.{Plan}
-use Rattle.noc_model.specs.Run.{State, step}
-use Rattle.noc_model.specs.Events.{cycle_events}
-use Rattle.noc_model.specs.Driver.{Driver, driven, next_states, driven_events, driven_state, driver_states}
+use Rattle.noc_model.specs.Run.{State, step, state_from}
+use Rattle.noc_model.specs.Events.{cycle_events, events_from}
+use Rattle.noc_model.specs.Driver.{Driver, driven, next_states, driven_events, driven_state, driver_states, driven_inputs}
 
 -- the state after one cycle more
 pub state-last : (p : Plan) (d : ℕ) (v : Driver) (k t u : ℕ) (s : State) (states : ℕ → List ℕ) → u ≡ t + k
@@ -36,3 +36,22 @@ events-last p d v (suc k) t u s states is =
     let first = cycle_events p d t s (driven p d v states t) in
     let last = cycle_events p d u (driven_state p d v k (suc t) next after) (driven p d v (driver_states p d v k (suc t) next after) u) in
     ap (λ es. first ++ es) (events-last p d v k (suc t) u next after (omega arith)) ∙ sym (append_assoc first (driven_events p d v k (suc t) next after) last)
+
+-- ---- the run is that of the inputs which the driver makes
+
+-- one input for each cycle
+pub inputs-length : (p : Plan) (d : ℕ) (v : Driver) (k t : ℕ) (s : State) (states : ℕ → List ℕ) → length (driven_inputs p d v k t s states) ≡ k
+inputs-length p d v zero t s states = refl
+inputs-length p d v (suc k) t s states = omega (arith, inputs-length p d v k (suc t) (step p d (pos t) s (driven p d v states t)) (next_states p d v states t s))
+
+pub driven-state_from : (p : Plan) (d : ℕ) (v : Driver) (k t : ℕ) (s : State) (states : ℕ → List ℕ)
+    → driven_state p d v k t s states ≡ state_from p d t s (driven_inputs p d v k t s states)
+driven-state_from p d v zero t s states = refl
+driven-state_from p d v (suc k) t s states = driven-state_from p d v k (suc t) (step p d (pos t) s (driven p d v states t)) (next_states p d v states t s)
+
+pub driven-events_from : (p : Plan) (d : ℕ) (v : Driver) (k t : ℕ) (s : State) (states : ℕ → List ℕ)
+    → driven_events p d v k t s states ≡ events_from p d t s (driven_inputs p d v k t s states)
+driven-events_from p d v zero t s states = refl
+driven-events_from p d v (suc k) t s states =
+    ap (λ es. cycle_events p d t s (driven p d v states t) ++ es)
+    (driven-events_from p d v k (suc t) (step p d (pos t) s (driven p d v states t)) (next_states p d v states t s))

@@ -1,6 +1,6 @@
 -- The tiles that host a domain, in the order of the attachments, and the number of an attachment.
 use Rattle.std.proofs.Common.{◌≡◌, ℕ, zero, suc, ◌+◌, ◌<◌, ◌≤◌, ◌⊎◌, inl, inr, Bool, true, false, ◌&&◌, ◌||◌, eqb, List, [], ◌∷◌, length, get_or, refl, sym, ap, ◌∙◌, subst, arith, Option, Some, None}
-use Rattle.std.specs.Prelude.{slice_get, unwrap_or, if◌then◌else◌, ◌==◌, filter, All, AllPairs}
+use Rattle.std.specs.Prelude.{slice_get, if◌then◌else◌, ◌==◌, filter, All, AllPairs}
 use Rattle.std.specs.List.{list_any}
 use Rattle.std.proofs.lemmas.Bool.Decides.{nat_tests}
 use Rattle.std.proofs.lemmas.Option.{get_or_from_slice_get, slice_get_within}
@@ -8,9 +8,8 @@ use Rattle.std.proofs.lemmas.List.Folds.{list_any_at}
 use Rattle.noc_model.specs.declared.Host.{Host}
 use Rattle.noc_model.specs.Plan.{Plan, tiles, hosts, is_host, attach_of}
 use Rattle.noc_model.specs.Sound.{IsSound, IsBefore}
-use Rattle.noc_model.specs.Driver.{number_of}
 use Rattle.noc_model.specs.Events.{tabulate, hosts_of}
-use Rattle.noc_model.proofs.Named.{host_at-position, list_any-no_position}
+use Rattle.noc_model.proofs.Named.{host_at-position, list_any-position, list_any-no_position}
 
 -- the tiles of the domain's hosts
 abbrev pub host_tiles : ℕ → List Host → List ℕ
@@ -157,21 +156,40 @@ host-hosted p j h e =
     let test : is_host h.tile h.domain h ≡ true = grind (arith, nat_tests) in
     list_any_at (is_host h.tile h.domain) p.hosts j h less (ap (is_host h.tile h.domain) at ∙ test)
 
--- the attachment of a domain that the tile hosts
-pub attached : (p : Plan) (n d : ℕ) → hosts p n d ≡ true → slice_get p.hosts (number_of p d n) ≡ Some (record { tile = n; domain = d })
+-- tile n has an attachment of domain d
+pub record HasAttachment (p : Plan) (n d : ℕ) : Type 0 where
+  pub number : ℕ
+  pub is : attach_of p n d ≡ Some number
+  pub at : slice_get p.hosts number ≡ Some (record { tile = n; domain = d })
+
+-- a tile that hosts the domain has
+pub attached : (p : Plan) (n d : ℕ) → hosts p n d ≡ true → HasAttachment p n d
 attached p n d fits = go (attach_of p n d) refl
   where
-    go : (o : Option ℕ) → attach_of p n d ≡ o → slice_get p.hosts (number_of p d n) ≡ Some (record { tile = n; domain = d })
+    go : (o : Option ℕ) → attach_of p n d ≡ o → HasAttachment p n d
     go None e = absurd (let none = list_any-no_position (is_host n d) p.hosts e in cc)
-    go (Some j) e = ap (λ o. slice_get p.hosts (unwrap_or o 0)) e ∙ host_at-position n d p.hosts j e
+    go (Some j) e = record { number = j; is = e; at = host_at-position n d p.hosts j e }
 
--- it has its number
-pub number-is : (p : Plan) (j : ℕ) (h : Host) → IsSound p → slice_get p.hosts j ≡ Some h → number_of p h.domain h.tile ≡ j
+-- another has none
+pub not-attached : (p : Plan) (n d : ℕ) → hosts p n d ≡ false → attach_of p n d ≡ None
+not-attached p n d away = go (attach_of p n d) refl
+  where
+    go : (o : Option ℕ) → attach_of p n d ≡ o → o ≡ None
+    go None e = refl
+    go (Some j) e = absurd (let some = list_any-position (is_host n d) p.hosts j (record { tile = n; domain = d }) e in cc)
+
+-- an attachment has its number
+pub number-is : (p : Plan) (j : ℕ) (h : Host) → IsSound p → slice_get p.hosts j ≡ Some h → attach_of p h.tile h.domain ≡ Some j
 number-is p j h sound e =
-    host-unique p (number_of p h.domain h.tile) j (record { tile = h.tile; domain = h.domain }) h sound (attached p h.tile h.domain (host-hosted p j h e)) e refl refl
+    let has = attached p h.tile h.domain (host-hosted p j h e) in
+    has.is ∙ ap Some (host-unique p has.number j (record { tile = h.tile; domain = h.domain }) h sound has.at e refl refl)
 
 -- the tile and the domain of an attachment are of the plan
 pub host-within : (p : Plan) (j : ℕ) (h : Host) → IsSound p → slice_get p.hosts j ≡ Some h → (h.tile < tiles p) × (h.domain < length p.domains)
 host-within p j h sound e =
     subst (λ (x : Host). (x.tile < tiles p) × (x.domain < length p.domains)) (get_or_from_slice_get p.hosts j h h e)
     (sound.hosts j h (slice_get_within p.hosts j h e))
+
+-- a tile that hosts a domain is there
+pub hosts-inside : (p : Plan) (n d : ℕ) → IsSound p → hosts p n d ≡ true → n < tiles p
+hosts-inside p n d sound here = let has = attached p n d here in (host-within p has.number (record { tile = n; domain = d }) sound has.at).0

@@ -1,11 +1,13 @@
 -- A route's output is there, and so are the channels that are given out on it.
-use Rattle.std.proofs.Common.{◌≡◌, ◌≢◌, ℕ, zero, suc, ◌+◌, ◌*◌, ◌/◌, ◌%◌, ◌<◌, ◌≤◌, ◌⊎◌, inl, inr, Bool, true, false, length, refl, sym, ◌∙◌, ap, arith, mul_comm, lit≤, lit<, ◌&&◌, ◌||◌, Option}
+use Rattle.std.proofs.Common.{◌≡◌, ◌≢◌, ℕ, zero, suc, ◌+◌, ◌*◌, ◌/◌, ◌%◌, ◌<◌, ◌≤◌, ◌⊎◌, inl, inr, Bool, true, false, length, refl, sym, ◌∙◌, ap, arith, lit<, ◌&&◌, ◌||◌, Option}
 use Rattle.std.specs.Prelude.{Some, None, is_some, nat_lt, not, slice_index, slice_index_or, if◌then◌else◌, option_map}
 use Rattle.std.proofs.lemmas.Bool.Decides.{nat_tests}
 use Rattle.std.proofs.lemmas.List.{get_or_past}
-use Rattle.std.proofs.lemmas.Nat.{div_below, mul-add-lt}
-use Rattle.noc_model.specs.Plan.{Plan, channels, lanes, classes, in_channels, out_channels, ports}
-use Rattle.noc_model.specs.Place.{coords_in, Way, Local, Plus, Minus, way_of, port_of, side, coord, has_link, neighbour, route, goes_plus, class_after, is_wrap, is_wrap_way, is_same_dim, are_edges, next_in, last_in}
+use Rattle.noc_model.specs.Plan.{Plan, channels, lanes, classes, in_channels, out_channels, ports, at_local}
+use Rattle.noc_model.specs.declared.ways.Way.{Way}
+use Rattle.noc_model.specs.declared.ways.Way.TheVariants.{Local, Plus, Minus}
+use Rattle.noc_model.specs.Place.{coords_in, way_of, port_of, side, coord, has_link, neighbour, route, goes_plus, class_after, is_wrap, is_wrap_way, is_same_dim, are_edges, next_in, last_in}
+use Rattle.noc_model.specs.Inputs.{pack}
 use Rattle.noc_model.specs.Pick.{pick, least}
 use Rattle.noc_model.specs.Tile.{Tile}
 use Rattle.noc_model.specs.Step.{class_of, free_channel, free_for, is_candidate, winner, taken_channel, waits_for}
@@ -13,6 +15,7 @@ use Rattle.noc_model.specs.SoundState.{IsOutput}
 use Rattle.noc_model.proofs.Coords.{AllPositive, within-coords_in, length-within, coord-within}
 use Rattle.noc_model.proofs.Wave.{port_of-way_of}
 use Rattle.noc_model.proofs.Rank.{by, First, Leads, home, leads, leads-to}
+use Rattle.noc_model.proofs.Inputs.{input-within, pack-below, class-below, classes-some}
 use Rattle.noc_model.proofs.Least.{least-member, pick-member}
 use Rattle.noc_model.proofs.Switch.{then-is}
 
@@ -62,10 +65,6 @@ route-output p n dest positive = go (way_of (route p n dest)) refl (leads-to p n
 
 -- ---- classes and channels
 
-classes-some : (torus : Bool) → 1 ≤ (if torus then 2 else 1)
-classes-some true = lit≤ tt
-classes-some false = lit≤ tt
-
 few-class : (torus wrap same : Bool) (c : ℕ) → (wrap ≡ true → torus ≡ true) → c < (if torus then 2 else 1)
     → (if wrap then 1 else (if same then c else 0)) < (if torus then 2 else 1)
 few-class true true same c h low = lit< tt
@@ -73,7 +72,7 @@ few-class false true same c h low = absurd (let bad = h refl in cc)
 few-class torus false true c h low = low
 few-class torus false false c h low = let some = classes-some torus in omega arith
 
-and-first : (a b : Bool) → (a && b) ≡ true → a ≡ true
+pub and-first : (a b : Bool) → (a && b) ≡ true → a ≡ true
 and-first true b e = refl
 and-first false b e = absurd (cc e)
 
@@ -92,43 +91,39 @@ no_dim-local Local = refl
 no_dim-local (Plus i) = refl
 no_dim-local (Minus i) = refl
 
-class-local : (p : Plan) (n in_port in_class : ℕ) → class_after p n in_port in_class 0 ≡ 0
+pub class-local : (p : Plan) (n in_port in_class : ℕ) → class_after p n in_port in_class 0 ≡ 0
 unfolding class_after is_wrap
 class-local p n in_port in_class = rw no_dim-local refl
 
 -- an input channel is of a class
 pub channel-class : (p : Plan) (d port c : ℕ) → c < in_channels p d port → c / channels p d < classes p
-channel-class p d zero c below =
-    let one : c < 1 * channels p d = omega arith in
-    let some : 0 < channels p d = omega arith in
-    let row = div_below c (channels p d) 1 some one in
-    let few = classes-some p.torus in
-    omega arith
-channel-class p d (suc port) c below = go (channels p d) below
-  where
-    go : (k : ℕ) → c < classes p * k → c / k < classes p
-    go zero h = absurd (let none : classes p * 0 ≡ 0 = omega arith in omega arith)
-    go (suc k) h = div_below c (suc k) (classes p) (omega arith) h
+channel-class p d port c below = class-below p d c (input-within p d port c below)
 
-option-map-is : {A B : Type 0} (f : A → B) (o : Option A) (y : B) → option_map f o ≡ Some y → (x : A) × (o ≡ Some x) × (f x ≡ y)
+pub option-map-is : {A B : Type 0} (f : A → B) (o : Option A) (y : B) → option_map f o ≡ Some y → (x : A) × (o ≡ Some x) × (f x ≡ y)
 option-map-is f None y e = absurd (cc e)
 option-map-is f (Some x) y e = (x, refl, cc)
 
 free-few : (p : Plan) (d : ℕ) (s : Tile) (o class w : ℕ) → class < classes p → (o ≡ 0 → class ≡ 0) → free_channel p d s o class ≡ Some w → w < out_channels p d o
 free-few p d s zero class w low local e =
-    let found = option-map-is (λ j. class * channels p d + j) (least 1 (λ j. not (s.held 0 (class * channels p d + j)))) w e in
-    let member = least-member 1 (λ j. not (s.held 0 (class * channels p d + j))) found.0 found.1 in
+    let found = option-map-is (pack p d class) (least 1 (λ j. not (s.held 0 (pack p d class j)))) w e in
+    let member = least-member 1 (λ j. not (s.held 0 (pack p d class j))) found.0 found.1 in
     let at : class ≡ 0 = local refl in
     let none : class * channels p d ≡ 0 = rw at (omega arith) in
     omega (arith, found.2, member.0)
 free-few p d s (suc o) class w low local e =
-    let found = option-map-is (λ j. class * channels p d + j) (least (channels p d) (λ j. not (s.held (suc o) (class * channels p d + j)))) w e in
-    let member = least-member (channels p d) (λ j. not (s.held (suc o) (class * channels p d + j))) found.0 found.1 in
-    let fits = mul-add-lt class (channels p d) found.0 (classes p) low member.0 in
-    let turned : channels p d * classes p ≡ classes p * channels p d = mul_comm (channels p d) (classes p) in
-    omega (arith, found.2, fits, turned)
+    let found = option-map-is (pack p d class) (least (channels p d) (λ j. not (s.held (suc o) (pack p d class j)))) w e in
+    let member = least-member (channels p d) (λ j. not (s.held (suc o) (pack p d class j))) found.0 found.1 in
+    rw (← found.2) (pack-below p d class found.0 low member.0)
 
-class-zero : (p : Plan) (d n port c o : ℕ) → o ≡ 0 → class_of p d n port c o ≡ 0
+-- a channel of a class at an output is one of the output's
+pub free-there : (p : Plan) (d o class j : ℕ) → class < classes p → (o ≡ 0 → class ≡ 0) → j < at_local o 1 (channels p d) → pack p d class j < out_channels p d o
+free-there p d zero class j low local below =
+    let at : class ≡ 0 = local refl in
+    let none : class * channels p d ≡ 0 = rw at (omega arith) in
+    omega (arith, none)
+free-there p d (suc o) class j low local below = pack-below p d class j low below
+
+pub class-zero : (p : Plan) (d n port c o : ℕ) → o ≡ 0 → class_of p d n port c o ≡ 0
 class-zero p d n port c o e = rw e (class-local p n port (c / channels p d))
 
 -- the channel that is given out is one of the output's

@@ -2,7 +2,7 @@
 use Rattle.std.proofs.Common.{◌≡◌, ℕ, true, false, List, [], ◌∷◌, map, refl}
 use Rattle.std.specs.Prelude.{Option, Some, None, pos, negsuc}
 use Rattle.noc_model.specs.Plan.{Plan, places, lookup}
-use Rattle.noc_model.specs.Place.{coords, coord, side, opposite, neighbour, is_wrap, route, class_after, rank, wave, owner}
+use Rattle.noc_model.specs.Place.{coords_in, coord, side, opposite, neighbour, is_wrap, route, class_after, rank, wave, owner}
 use Rattle.noc_model.proofs.Examples.{plain, named_from, two_tiles, split_domains, weighted_slots, ring_of_three, ring_of_four, cube}
 
 -- the owners of the link by plus from tile 0, and by minus from tile 1
@@ -10,18 +10,18 @@ abbrev owners_at : Plan → ℕ → List ℕ
 owners_at p t = owner p 0 1 (pos t) ∷ owner p 1 2 (pos t) ∷ []
 
 two_domains_take_turns : owners_at (record two_tiles { stages = 2 }) 0 ∷ owners_at (record two_tiles { stages = 2 }) 1 ∷ [] ≡ (0 ∷ 1 ∷ []) ∷ (1 ∷ 0 ∷ []) ∷ []
-unfolding coords coord side wave owner
+unfolding coord side wave owner
 two_domains_take_turns = refl
 
 weighted_slots_go_round : owners_at weighted_slots 0 ∷ owners_at weighted_slots 1 ∷ owners_at weighted_slots 2 ∷ []
     ≡ (0 ∷ 0 ∷ []) ∷ (0 ∷ 1 ∷ []) ∷ (1 ∷ 0 ∷ []) ∷ []
-unfolding coords coord side wave owner
+unfolding coord side wave owner
 weighted_slots_go_round = refl
 
 -- the owners in the cycles before the first are those of a whole turn later
 owners_before_the_start : owner weighted_slots 1 2 (negsuc 0) ∷ owner weighted_slots 1 2 (negsuc 1) ∷ owner weighted_slots 1 2 (negsuc 5) ∷ []
     ≡ owner weighted_slots 1 2 (pos 2) ∷ owner weighted_slots 1 2 (pos 1) ∷ owner weighted_slots 1 2 (pos 0) ∷ []
-unfolding coords coord side wave owner
+unfolding coord side wave owner
 owners_before_the_start = refl
 
 -- the neighbours by plus and minus of dimension 0, then of dimension 1
@@ -65,8 +65,7 @@ mesh_has_no_wrap_link : map (λ n. is_wrap (plain false (2 ∷ [])) n 1) (0 ∷ 
 unfolding coord side is_wrap
 mesh_has_no_wrap_link = refl
 
-corner_of_the_cube : coords cube 7 ≡ 1 ∷ 1 ∷ 1 ∷ []
-unfolding coords
+corner_of_the_cube : coords_in cube.dims 7 ≡ 1 ∷ 1 ∷ 1 ∷ []
 corner_of_the_cube = refl
 
 routes_go_by_dimension : route cube 0 7 ∷ route cube 3 7 ∷ route cube 7 7 ∷ route cube 7 3 ∷ [] ≡ 1 ∷ 5 ∷ 0 ∷ 6 ∷ []

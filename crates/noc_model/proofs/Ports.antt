@@ -1,9 +1,11 @@
 -- Ports by their parity, and the ports of links.
-use Rattle.std.proofs.Common.{◌≡◌, ◌≢◌, ℕ, zero, suc, ◌-◌, ◌/◌, ◌%◌, ◌<◌, Bool, true, false, length, IsSome, refl, sym, ◌∙◌, ap, arith, if◌then◌else◌, ◌==◌}
+use Rattle.std.proofs.Common.{◌≡◌, ◌≢◌, ℕ, zero, suc, ◌+◌, ◌-◌, ◌/◌, ◌%◌, ◌<◌, ◌≤◌, Bool, true, false, length, IsSome, refl, sym, ◌∙◌, ap, arith, if◌then◌else◌, ◌==◌}
 use Rattle.std.specs.Prelude.{Some, None}
 use Rattle.std.proofs.lemmas.Bool.Decides.{nat_tests}
 use Rattle.noc_model.specs.Plan.{Plan}
-use Rattle.noc_model.specs.Place.{Way, Local, Plus, Minus, way_of, port_of, opposite_way, opposite, has_link, neighbour, side}
+use Rattle.noc_model.specs.declared.ways.Way.{Way}
+use Rattle.noc_model.specs.declared.ways.Way.TheVariants.{Local, Plus, Minus}
+use Rattle.noc_model.specs.Place.{way_of, port_of, opposite_way, opposite, has_link, neighbour, side}
 use Rattle.noc_model.proofs.Coords.{in-sides}
 use Rattle.noc_model.proofs.Wave.{way_of-port_of, port_of-way_of}
 
@@ -30,15 +32,6 @@ pub opposite-is : (port : ℕ) → way_of (opposite port) ≡ opposite_way (way_
 unfolding opposite
 opposite-is port = way_of-port_of (opposite_way (way_of port))
 
-opposite-turned : (r i : ℕ) → r < 2 → opposite_way (if r == 1 then Plus i else Minus i) ≡ (if r == 0 then Plus i else Minus i)
-opposite-turned zero i h = refl
-opposite-turned (suc zero) i h = refl
-opposite-turned (suc (suc r)) i h = absurd (omega arith)
-
--- opposite to even ports are plus, and to odd ones minus
-pub opposite-by : (port : ℕ) → port ≢ 0 → way_of (opposite port) ≡ (if port % 2 == 0 then Plus ((port - 1) / 2) else Minus ((port - 1) / 2))
-opposite-by port link = opposite-is port ∙ ap opposite_way (way-by port link) ∙ opposite-turned (port % 2) ((port - 1) / 2) (omega arith)
-
 opposite-local : (w : Way) → opposite_way w ≡ Local → w ≡ Local
 opposite-local Local e = refl
 opposite-local (Plus i) e = absurd (cc e)
@@ -46,6 +39,16 @@ opposite-local (Minus i) e = absurd (cc e)
 
 pub opposite-linked : (port : ℕ) → port ≢ 0 → way_of (opposite port) ≢ Local
 opposite-linked port link e = way-linked port link (opposite-local (way_of port) (sym (opposite-is port) ∙ e))
+
+-- an opposite port is next to its port
+pub opposite-near : (port : ℕ) → opposite port ≤ port + 1
+unfolding opposite
+opposite-near port = go (way_of port) (port_of-way_of port)
+  where
+    go : (w : Way) → port_of w ≡ port → port_of (opposite_way w) ≤ port + 1
+    go Local e = omega arith
+    go (Plus i) e = omega arith
+    go (Minus i) e = omega arith
 
 -- ---- ports of links
 

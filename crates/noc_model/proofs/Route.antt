@@ -5,7 +5,8 @@ use Rattle.std.specs.List.{AllByRecursion}
 use Rattle.std.proofs.lemmas.List.Elements.{recursion_from_All}
 use Rattle.noc_model.specs.Plan.{Plan}
 use Rattle.noc_model.specs.Sound.{IsSound}
-use Rattle.noc_model.specs.Place.{Way, way_of, opposite_way, opposite, side, neighbour, route, class_after, rank, rank_of, is_wrap, tile_that_way, has_link}
+use Rattle.noc_model.specs.declared.ways.Way.{Way}
+use Rattle.noc_model.specs.Place.{way_of, opposite_way, opposite, side, neighbour, route, class_after, rank, rank_of, is_wrap, tile_that_way, has_link}
 use Rattle.noc_model.specs.Walk.{Stop, out_of, out_class, out_rank, next_stop, stop_at}
 use Rattle.noc_model.proofs.Coords.{AllPositive}
 use Rattle.noc_model.proofs.Kept.{positive-sound}

@@ -73,7 +73,7 @@ unfolding everything quiet_for
 tie_goes_by_plus = refl
 
 -- tile 0 and tile 2 are offered words for the tile between them
-abbrev both_ends : ℕ → ℕ → Bool → Input
+abbrev pub both_ends : ℕ → ℕ → Bool → Input
 both_ends a b last = record {
   offer = λ n. if n == 0 then Some (record { address = 0x100; payload = a; last = last })
       else (if n == 2 then Some (record { address = 0x100; payload = b; last = last }) else None);

@@ -8,7 +8,9 @@ use Rattle.noc_model.specs.declared.plan.DomainPart.{DomainPart}
 use Rattle.noc_model.specs.declared.LinkFlit.{LinkFlit}
 use Rattle.noc_model.specs.Plan.{Plan, tiles, channels}
 use Rattle.noc_model.specs.Sound.{IsSound}
-use Rattle.noc_model.specs.Place.{coords_in, tile_in, Way, Local, Plus, Minus, way_of, side, coord, has_link, tile_that_way, neighbour, opposite, next_in, last_in}
+use Rattle.noc_model.specs.declared.ways.Way.{Way}
+use Rattle.noc_model.specs.declared.ways.Way.TheVariants.{Local, Plus, Minus}
+use Rattle.noc_model.specs.Place.{coords_in, tile_in, way_of, side, coord, has_link, tile_that_way, neighbour, opposite, next_in, last_in}
 use Rattle.noc_model.specs.Run.{State, Input, start, step, state_from, run, arrival, last_place, fed}
 use Rattle.noc_model.specs.SoundState.{GoesHome, IsSoundTile, IsSoundState}
 use Rattle.noc_model.proofs.Coords.{AllPositive, positive, within-set, within-coords_in, next-below, last-below}
@@ -27,7 +29,7 @@ arrival-home p d n port t s x sound e =
     let from = then-is (λ m. last_place p (s m) (opposite port)) (neighbour p n port) x e in
     (sound from.0).on_link (opposite port) (p.stages - 1) x from.2
 
-arrival-none : (p : Plan) (s : State) (n port : ℕ) → neighbour p n port ≡ None → arrival p s n port ≡ None
+pub arrival-none : (p : Plan) (s : State) (n port : ℕ) → neighbour p n port ≡ None → arrival p s n port ≡ None
 unfolding arrival
 arrival-none p s n port none = rw none refl
 
@@ -37,12 +39,12 @@ fed-sound p d n t s x sound = record {
   unlinked = λ port none. arrival-none p s n port none;
 }
 
-tiles-step : (p : Plan) (d : ℕ) (t : ℤ) (s : State) (x : Input) → AllPositive p.dims → ((m : ℕ) → IsSoundTile p d m t (s m))
+pub tiles-step : (p : Plan) (d : ℕ) (t : ℤ) (s : State) (x : Input) → AllPositive p.dims → ((m : ℕ) → IsSoundTile p d m t (s m))
     → (n : ℕ) → IsSoundTile p d n (t +ℤ pos 1) (step p d t s x n)
 unfolding step
 tiles-step p d t s x positive sound n = tile_step-sound p d n t (s n) (fed p d s x n) positive (sound n) (fed-sound p d n t s x sound)
 
-tiles-from : (p : Plan) (d : ℕ) → AllPositive p.dims → (t : ℕ) (s : State) (xs : List Input) → ((m : ℕ) → IsSoundTile p d m (pos t) (s m))
+pub tiles-from : (p : Plan) (d : ℕ) → AllPositive p.dims → (t : ℕ) (s : State) (xs : List Input) → ((m : ℕ) → IsSoundTile p d m (pos t) (s m))
     → (n : ℕ) → IsSoundTile p d n (pos (t + length xs)) (state_from p d t s xs n)
 tiles-from p d positive t s [] sound n = let e : t + 0 ≡ t = omega arith in rw e (sound n)
 tiles-from p d positive t s (x ∷ xs) sound n =
@@ -51,7 +53,7 @@ tiles-from p d positive t s (x ∷ xs) sound n =
     let stepped : (m : ℕ) → IsSoundTile p d m (pos (suc t)) (step p d (pos t) s x m) = λ m. (let here = tiles-step p d (pos t) s x positive sound m in rw next at here) in
     rw e (tiles-from p d positive (suc t) (step p d (pos t) s x) xs stepped n)
 
-start-sound : (p : Plan) (d n : ℕ) (t : ℤ) → 0 < channels p d → IsSoundTile p d n t (start p n)
+pub start-sound : (p : Plan) (d n : ℕ) (t : ℤ) → 0 < channels p d → IsSoundTile p d n t (start p n)
 start-sound p d n t some = record {
   queued = λ port c. All-nil (GoesHome p d);
   on_link = λ o i x e. absurd (cc e);

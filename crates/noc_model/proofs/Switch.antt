@@ -66,7 +66,7 @@ asked-ready p d n t s i port g e =
     let ready = ready_queue p d n t s i (s.queue port got.0) (s.stage port got.0) g.out g.to at.1 member.1 in
     ready_at p d n t s i port g got.0 ready.0 at.0 member.0 at.1 ready.1 ready.2
 
-granted_to-is : (o : Option ℕ) (port : ℕ) (g h : Grant) → granted_to o port g ≡ Some h → g ≡ h
+pub granted_to-is : (o : Option ℕ) (port : ℕ) (g h : Grant) → granted_to o port g ≡ Some h → g ≡ h
 granted_to-is None port g h e = absurd (cc e)
 granted_to-is (Some k) port g h e = go (k == port) e
   where
@@ -95,10 +95,10 @@ leaves-front p d n t s i port c e = go (grant p d n t s i port) refl e
         let same : g.channel ≡ c = grind (arith, nat_tests, e) in
         (ready.flit, rw (← same) ready.is_front)
 
-option_one : {A : Type 0} (o : Option A) (x y : A) → o ≡ Some x → o ≡ Some y → x ≡ y
+pub option_one : {A : Type 0} (o : Option A) (x y : A) → o ≡ Some x → o ≡ Some y → x ≡ y
 option_one o x y e f = cc
 
-asks_for-out : (o : Option Grant) (out : ℕ) → asks_for o out ≡ true → (g : Grant) × (o ≡ Some g) × (g.out ≡ out)
+pub asks_for-out : (o : Option Grant) (out : ℕ) → asks_for o out ≡ true → (g : Grant) × (o ≡ Some g) × (g.out ≡ out)
 asks_for-out None out e = absurd (cc e)
 asks_for-out (Some g) out e = (g, refl, grind (arith, nat_tests, e))
 
@@ -109,6 +109,7 @@ with_channel-is w (Some f) x e = let is : record { channel = w; flit = f } ≡ x
 -- what is sent goes by a grant, to a channel that takes it, and is the front of the granted channel
 pub record IsSentBy (p : Plan) (d n : ℕ) (t : ℤ) (s : Tile) (i : TileIn) (o : ℕ) (x : LinkFlit) : Type 0 where
   pub port : ℕ
+  pub inside : port < ports p
   pub by : Grant
   pub granted : grant p d n t s i port ≡ Some by
   pub out : by.out ≡ o
@@ -130,6 +131,11 @@ granted-out p d n t s i o port g is_chosen is_granted =
     let one : asks.0 ≡ g = option_one (asked p d n t s i port) asks.0 g asks.1 (got.1 ∙ ap Some same) in
     ap (λ (h : Grant). h.out) (sym one) ∙ asks.2
 
+-- an output picks a port that is there
+pub chosen-inside : (p : Plan) (d n : ℕ) (t : ℤ) (s : Tile) (i : TileIn) (o port : ℕ) → chosen p d n t s i o ≡ Some port → port < ports p
+unfolding chosen
+chosen-inside p d n t s i o port e = (pick-member (ports p) (λ k. asks_for (asked p d n t s i k) o) (s.switch o) port e).0
+
 pub sent-by : (p : Plan) (d n : ℕ) (t : ℤ) (s : Tile) (i : TileIn) (o : ℕ) (x : LinkFlit)
     → sent p d n t s i o ≡ Some x → IsSentBy p d n t s i o x
 unfolding sent
@@ -138,6 +144,7 @@ sent-by p d n t s i o x e =
     let by = then-is (λ g. with_channel g.to (front (s.queue got.0 g.channel))) (grant p d n t s i got.0) x got.2 in
     record {
       port = got.0;
+      inside = chosen-inside p d n t s i o got.0 got.1;
       by = by.0;
       granted = by.1;
       out = granted-out p d n t s i o got.0 by.0 got.1 by.1;

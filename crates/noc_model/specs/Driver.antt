@@ -1,5 +1,5 @@
 -- A driver, and the run of one domain that it drives.
-use Rattle.std.specs.Prelude.{◌≡◌, ℕ, zero, suc, Bool, true, false, List, [], ◌++◌, Option, Some, None, is_some, unwrap_or, slice_get, ◌&&◌, ◌==◌, if◌then◌else◌, pos}
+use Rattle.std.specs.Prelude.{◌≡◌, ℕ, zero, suc, Bool, true, false, List, [], ◌∷◌, ◌++◌, Option, Some, None, is_some, slice_get, ◌&&◌, ◌==◌, if◌then◌else◌, pos}
 use Rattle.noc_model.specs.declared.Host.{Host}
 use Rattle.noc_model.specs.declared.Offer.{Offer}
 use Rattle.noc_model.specs.declared.Ejected.{Ejected}
@@ -17,19 +17,26 @@ pub record Driver : Type 0 where
   pub taken : ℕ → List ℕ → ℕ → List ℕ
   pub got : ℕ → List ℕ → ℕ → Ejected → List ℕ
 
--- an attachment that hears in a cycle still does when a word was taken in it
+-- an attachment that hears in a cycle still does when the word that it offers was taken in it
 abbrev pub KeepsHearing : Driver → Type 0
-KeepsHearing v = (j t : ℕ) (state : List ℕ) → v.hears j state t ≡ true → v.hears j (v.taken j state t) t ≡ true
+KeepsHearing v = (j t : ℕ) (state : List ℕ) → is_some (v.offer j state t) ≡ true → v.hears j state t ≡ true
+    → v.hears j (v.taken j state t) t ≡ true
 
--- the number of the attachment of tile n and domain d, or 0 where the tile doesn't host the domain
-abbrev pub number_of : Plan → ℕ → ℕ → ℕ
-number_of p d n = unwrap_or (attach_of p n d) 0
+-- what an attachment offers, where there is one, and attachment j is in the state at j
+abbrev pub offer_at : Driver → (ℕ → List ℕ) → ℕ → Option ℕ → Option Offer
+offer_at v states t None = None
+offer_at v states t (Some j) = v.offer j (states j) t
 
--- the input of domain d in cycle t, where attachment j is in the state at j
+-- whether it hears
+abbrev pub hears_at : Driver → (ℕ → List ℕ) → ℕ → Option ℕ → Bool
+hears_at v states t None = false
+hears_at v states t (Some j) = v.hears j (states j) t
+
+-- the input of domain d in cycle t: a tile that doesn't host the domain has no attachment to ask
 abbrev pub driven : Plan → ℕ → Driver → (ℕ → List ℕ) → ℕ → Input
 driven p d v states t = record {
-  offer = λ n. v.offer (number_of p d n) (states (number_of p d n)) t;
-  hears = λ n. v.hears (number_of p d n) (states (number_of p d n)) t;
+  offer = λ n. offer_at v states t (attach_of p n d);
+  hears = λ n. hears_at v states t (attach_of p n d);
 }
 
 -- the state of an attachment after a cycle in which a word was taken, or not
@@ -73,3 +80,10 @@ abbrev pub driver_states : Plan → ℕ → Driver → ℕ → ℕ → State →
 driver_states p d v zero t s states = states
 driver_states p d v (suc k) t s states =
     driver_states p d v k (suc t) (step p d (pos t) s (driven p d v states t)) (next_states p d v states t s)
+
+-- what the domain is fed in k cycles from t on, from the state s and the attachments' states
+abbrev pub driven_inputs : Plan → ℕ → Driver → ℕ → ℕ → State → (ℕ → List ℕ) → List Input
+driven_inputs p d v zero t s states = []
+driven_inputs p d v (suc k) t s states =
+    driven p d v states t
+    ∷ driven_inputs p d v k (suc t) (step p d (pos t) s (driven p d v states t)) (next_states p d v states t s)

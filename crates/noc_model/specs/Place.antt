@@ -1,5 +1,7 @@
 -- Coordinates, ports, neighbours, routes, classes, ranks and owners. A tile has a number, and is reached by a port's number.
 use Rattle.std.specs.Prelude.{ℕ, zero, suc, ◌+◌, ◌-◌, ◌*◌, ◌/◌, ◌%◌, Bool, false, List, [], ◌∷◌, length, if◌then◌else◌, ◌==◌, nat_le, nat_lt, ◌&&◌, ◌||◌, Option, Some, None, slice_set, slice_index, slice_index_or, sum_by, ℤ, pos, negsuc, ◌+ℤ◌, ◌-ℤ◌}
+use Rattle.noc_model.specs.declared.ways.Way.{Way}
+use Rattle.noc_model.specs.declared.ways.Way.TheVariants.{Local, Plus, Minus}
 use Rattle.noc_model.specs.Plan.{Plan, hop}
 
 -- the coordinates of a tile, one for each side
@@ -13,23 +15,13 @@ tile_in [] cs = 0
 tile_in (k ∷ ks) [] = 0
 tile_in (k ∷ ks) (c ∷ cs) = c + k * tile_in ks cs
 
--- the coordinates of tile n
-unfoldable pub coords : Plan → ℕ → List ℕ
-coords p n = coords_in p.dims n
-
--- its coordinate in dimension i
+-- the coordinate of tile n in dimension i
 unfoldable pub coord : Plan → ℕ → ℕ → ℕ
 coord p n i = slice_index (coords_in p.dims n) i
 
 -- the side in dimension i
 unfoldable pub side : Plan → ℕ → ℕ
 side p i = slice_index_or p.dims i 1
-
--- the way out of a tile
-pub data Way : Type 0 where
-  Local : Way
-  Plus : (dim : ℕ) → Way
-  Minus : (dim : ℕ) → Way
 
 -- port 0 is local, 1 + 2 i is plus in dimension i, and 2 + 2 i is minus
 abbrev pub way_of : ℕ → Way

@@ -1,13 +1,19 @@
 //! What holds of every plan and every run, over the definitions alone. Each law is the contract of a function that does nothing.
 
-ghost use Rattle.std.specs.Prelude.{◌≡◌, ◌<◌, ◌+ℤ◌, ℕ, ℤ, pos, List, length, Some, false};
+ghost use Rattle.std.specs.Prelude.{◌≡◌, ◌<◌, ◌+◌, ◌+ℤ◌, ℕ, ℤ, pos, Bool, List, length, Some, false, All, count_by};
+ghost use Rattle.noc_model.specs.declared.Flit.{Flit};
 ghost use Rattle.noc_model.specs.Plan.{Plan, tiles, hop};
 ghost use Rattle.noc_model.specs.Sound.{IsSound};
+ghost use Rattle.noc_model.specs.OwnPart.{HaveOwnPart};
 ghost use Rattle.noc_model.specs.Place.{neighbour, is_wrap, owner};
-ghost use Rattle.noc_model.specs.Run.{Input, run};
+ghost use Rattle.noc_model.specs.Run.{Input, start, run};
+ghost use Rattle.noc_model.specs.Events.{events_from};
+ghost use Rattle.noc_model.specs.Outs.{outs};
 ghost use Rattle.noc_model.specs.Walk.{Stop, stop_at, next_stop, out_of, out_rank};
 ghost use Rattle.noc_model.specs.Laws.{channel_sum};
 ghost use Rattle.noc_model.specs.SoundState.{IsSoundState};
+ghost use Rattle.noc_model.specs.Flits.{inside, entered, delivered, delivered_to};
+ghost use Rattle.noc_model.specs.Packets.{AreWholePackets, sent_on, entered_by};
 
 /// Credit conservation. On each channel of each link the credits, the flits on the link, those in the list at its end, and 1
 /// for a credit that is on its way back add up to the buffer, in every state of every run. No list is longer than the
@@ -30,4 +36,34 @@ pub fn wave()
 pub fn rank_rises()
     ensures { (p : Plan) (dest n k m : ℕ) (a b : Stop) → IsSound p → stop_at p dest n k ≡ Some a → next_stop p dest a ≡ Some b
         → neighbour p b.tile (out_of p dest b) ≡ Some m → out_rank p dest a < out_rank p dest b }
+{}
+
+/// Flit conservation. By every test of flits, so for each flit too, as many entered as were delivered and are still in lists,
+/// on links and in ejection places. No flit is delivered at another tile than the one that it names.
+pub fn conservation()
+    ensures counts { (p : Plan) (d : ℕ) (test : Flit → Bool) (inputs : List Input) → IsSound p → d < length p.domains
+        → count_by test (entered p d 0 (start p) inputs)
+        ≡ count_by test (delivered p d 0 (start p) inputs) + count_by test (inside p d (run p d inputs)) }
+    ensures home { (p : Plan) (d : ℕ) (inputs : List Input) (n : ℕ) → IsSound p → d < length p.domains → n < tiles p
+        → All (λ (f : Flit). f.dest ≡ n) (delivered_to p d 0 (start p) inputs n) }
+{}
+
+/// Whole packets. What passes on each channel of an output, what enters by each local channel, and what is delivered at each
+/// tile is packets in a row, the last perhaps unfinished: a head comes first and right behind each tail, and the flits of a
+/// packet name one tile.
+pub fn whole_packets()
+    ensures sent { (p : Plan) (d : ℕ) (inputs : List Input) (n port w : ℕ) → IsSound p → d < length p.domains → n < tiles p
+        → AreWholePackets (sent_on p d 0 (start p) inputs n port w) }
+    ensures entered { (p : Plan) (d : ℕ) (inputs : List Input) (n c : ℕ) → AreWholePackets (entered_by p d 0 (start p) inputs n c) }
+    ensures delivered { (p : Plan) (d : ℕ) (inputs : List Input) (n : ℕ) → IsSound p → d < length p.domains → n < tiles p
+        → AreWholePackets (delivered_to p d 0 (start p) inputs n) }
+{}
+
+/// Isolation of the plan. A domain's network reads nothing of a plan but the domain's own part: in two plans that have one own
+/// part of a domain the same inputs give the domain the same states, outputs and events.
+pub fn own_part()
+    ensures states { (p q : Plan) (d : ℕ) (inputs : List Input) → HaveOwnPart p q d → run p d inputs ≡ run q d inputs }
+    ensures outputs { (p q : Plan) (d : ℕ) (inputs : ℕ → Input) → HaveOwnPart p q d → outs p d inputs ≡ outs q d inputs }
+    ensures events { (p q : Plan) (d : ℕ) (inputs : List Input) → HaveOwnPart p q d
+        → events_from p d 0 (start p) inputs ≡ events_from q d 0 (start q) inputs }
 {}

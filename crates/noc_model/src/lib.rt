@@ -16,9 +16,11 @@ mod plan;
 mod sides;
 #[cfg(test)]
 mod tests;
+mod ways;
 
 pub use drive::Driving;
 pub use plan::{DomainPart, Parts, Plan};
+pub use ways::Way;
 
 /// One word of a packet on its way: a flit is the unit of flow control (Dally and Towles, chapter 12).
 #[derive(Clone, Copy, Debug, PartialEq, Eq)]

@@ -1,15 +1,15 @@
 //! An accepted plan.
 
-ghost use Rattle.std.specs.Prelude.{◌≡◌, ◌≢◌, ◌<◌, ◌≤◌, ℕ, length, slice_index, slice_get, Some, is_some, IfSome, IfNone, IfOk};
+ghost use Rattle.std.specs.Prelude.{◌≡◌, ◌≢◌, ◌<◌, ◌≤◌, ℕ, length, slice_index, slice_get, slice_set, option_map, Some, is_some, IfSome, IfNone, IfOk};
 ghost use Rattle.noc_model.specs.Plan.{product, tiles, ports, hop, channels, classes, name_of, places, hosts, attach_of, lookup};
 ghost use Rattle.noc_model.specs.Sound.{AreSides, HaveChannels};
-ghost use Rattle.noc_model.specs.Place.{side, coord, neighbour};
+ghost use Rattle.noc_model.specs.Place.{side, coord, coords_in, tile_in, neighbour};
 
 use crate::copies::copy_of;
 use crate::domains::{classes_of, find_in, lanes_of};
 use crate::lookups::{host_in, range_in};
-use crate::sides::{coord_in, moved_in, next_of, product_of};
-use crate::{Host, Range};
+use crate::sides::{coord_in, minus_of, moved_in, plus_of, product_of};
+use crate::{Host, Range, Way};
 use std::alloc::{AllocError, Global};
 use std::marker::Model;
 use surf_base::Bytes;
@@ -213,16 +213,27 @@ impl Plan {
         ensures value { result ≡ neighbour self.now n port }
         ensures tile { IfSome result (λ m. m < tiles self.now) }
     {
-        if port == 0 {
-            return None;
+        match Way::of_port(port) {
+            Way::Local => None,
+            Way::Plus(i) => {
+                let next = plus_of(self.parts.torus, self.side(i), self.coord(n, i));
+                self.moved(n, i, next)
+            }
+            Way::Minus(i) => {
+                let next = minus_of(self.parts.torus, self.side(i), self.coord(n, i));
+                self.moved(n, i, next)
+            }
         }
-        let i = (port - 1) / 2;
-        let next = next_of(
-            port % 2 == 1,
-            self.parts.torus,
-            self.side(i),
-            self.coord(n, i),
-        );
+    }
+
+    /// Tile `n` with its coordinate `i` changed to `next`, where there is one.
+    fn moved(&self, n: u32, i: u32, next: Option<u32>) -> Option<u32>
+        requires tile { n < tiles self.now }
+        requires dim { i < length self.now.dims }
+        requires below { IfSome next (λ y. y < side self.now i) }
+        ensures value { result ≡ option_map (λ y. tile_in self.now.dims (slice_set (coords_in self.now.dims n) i y)) next }
+        ensures tile { IfSome result (λ m. m < tiles self.now) }
+    {
         match next {
             Some(y) => Some(moved_in(&self.parts.dims, n, i as usize, y)),
             None => None,

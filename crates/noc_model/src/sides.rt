@@ -1,6 +1,6 @@
 //! Sides, coordinates and steps along a side, on plain numbers.
 
-ghost use Rattle.std.specs.Prelude.{◌≡◌, ◌<◌, ◌≤◌, ◌+◌, ◌*◌, length, take, slice_index, slice_set, true, false, IfSome, if◌then◌else◌, nat_lt, ◌&&◌, ◌||◌};
+ghost use Rattle.std.specs.Prelude.{◌≡◌, ◌<◌, ◌≤◌, ◌+◌, ◌*◌, length, take, slice_index, slice_set, IfSome, if◌then◌else◌, nat_lt, ◌&&◌, ◌||◌};
 ghost use Rattle.noc_model.specs.Plan.{product};
 ghost use Rattle.noc_model.specs.Sound.{AreSides};
 ghost use Rattle.noc_model.specs.Place.{coords_in, tile_in, next_in, last_in};
@@ -55,10 +55,11 @@ pub(crate) fn moved_in(sides: &[u32], n: u32, i: usize, y: u32) -> u32
 }
 
 /// The coordinate after `x` along a side of `k`, where a link leads there.
-fn plus_of(torus: bool, k: u32, x: u32) -> Option<u32>
+pub(crate) fn plus_of(torus: bool, k: u32, x: u32) -> Option<u32>
     requires within { x < k }
     requires side { k ≤ 16 }
-    ensures { result ≡ (if nat_lt 1 k && (torus || nat_lt (x + 1) k) then Some (next_in k x) else None) }
+    ensures value { result ≡ (if nat_lt 1 k && (torus || nat_lt (x + 1) k) then Some (next_in k x) else None) }
+    ensures below { IfSome result (λ y. y < k) }
 {
     if x + 1 < k {
         Some(x + 1)
@@ -70,9 +71,10 @@ fn plus_of(torus: bool, k: u32, x: u32) -> Option<u32>
 }
 
 /// The coordinate before `x` along a side of `k`, where a link leads there.
-fn minus_of(torus: bool, k: u32, x: u32) -> Option<u32>
+pub(crate) fn minus_of(torus: bool, k: u32, x: u32) -> Option<u32>
     requires { x < k }
-    ensures { result ≡ (if nat_lt 1 k && (torus || nat_lt 0 x) then Some (last_in k x) else None) }
+    ensures value { result ≡ (if nat_lt 1 k && (torus || nat_lt 0 x) then Some (last_in k x) else None) }
+    ensures below { IfSome result (λ y. y < k) }
 {
     if x > 0 {
         Some(x - 1)
@@ -80,20 +82,5 @@ fn minus_of(torus: bool, k: u32, x: u32) -> Option<u32>
         Some(k - 1)
     } else {
         None
-    }
-}
-
-/// The coordinate next to `x` along a side of `k`, by plus or by minus, where a link leads there.
-pub(crate) fn next_of(plus: bool, torus: bool, k: u32, x: u32) -> Option<u32>
-    requires within { x < k }
-    requires side { k ≤ 16 }
-    ensures plus { plus ≡ true → result ≡ (if nat_lt 1 k && (torus || nat_lt (x + 1) k) then Some (next_in k x) else None) }
-    ensures minus { plus ≡ false → result ≡ (if nat_lt 1 k && (torus || nat_lt 0 x) then Some (last_in k x) else None) }
-    ensures below { IfSome result (λ y. y < k) }
-{
-    if plus {
-        plus_of(torus, k, x)
-    } else {
-        minus_of(torus, k, x)
     }
 }

@@ -4,7 +4,7 @@ ghost use Rattle.std.specs.Prelude.{IfOk, [], Some, true, refl};
 ghost use Rattle.noc_model.specs.PlanOf.{plan_of};
 ghost use Rattle.noc_model.specs.Sound.{IsSound};
 
-use crate::{DomainPart, Driving, Host, Parts, Plan, Range};
+use crate::{DomainPart, Driving, Host, Parts, Plan, Range, Way};
 use std::alloc::{AllocError, Global};
 use surf_base::Bytes;
 
@@ -75,6 +75,14 @@ fn two_tiles_and_their_copy(rt: HostRuntime) {
     }
 }
 
+#[test]
+fn ways_and_their_ports(rt: HostRuntime) {
+    assert_eq!(&rt; Way::of_port(0), Way::Local);
+    assert_eq!(&rt; Way::of_port(3), Way::Plus(1));
+    assert_eq!(&rt; Way::Minus(2).port(), 6);
+    assert_eq!(&rt; Way::Plus(0).opposite(), Way::Minus(0));
+}
+
 /// Offers the same word for ever, and always hears.
 #[derive(Drop)]
 struct Steady {
@@ -93,7 +101,7 @@ impl Driving for Steady {
 
     ghost state = { λ s j. [] };
 
-    ghost keeps_hearing = { λ s j t state h. refl };
+    ghost keeps_hearing = { λ s j t state offered h. refl };
 }
 
 #[test]

@@ -5,12 +5,9 @@ pub mod Outs
 pub mod Rows
 pub mod Made
 pub mod Told
-pub mod Links
 pub mod Classes
 pub mod Twins
 pub mod Nets
 pub mod Hosted
 pub mod Reached
 pub mod Rounds
-pub mod FiveSound
-pub mod SplitSound

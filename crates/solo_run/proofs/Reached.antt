@@ -24,10 +24,12 @@ use Rattle.noc_model.proofs.StateKept.{fed-sound}
 use Rattle.solo_run.specs.Channel.{InChannel}
 use Rattle.solo_run.specs.Parts.{IsFit}
 use Rattle.solo_run.specs.Same.{IsSame, IsSameIn}
-use Rattle.solo_run.proofs.Hosted.{attached-inside, home-inside}
-use Rattle.solo_run.proofs.Outs.{link-below}
+use Rattle.noc_model.proofs.HostTiles.{host-within}
+use Rattle.solo_run.proofs.Hosted.{home-inside}
+use Rattle.noc_model.proofs.Switched.{link-below}
+use Rattle.noc_model.proofs.SamePlaces.{then-same}
 use Rattle.solo_run.proofs.Told.{events-more}
-use Rattle.solo_run.proofs.Twins.{AreTwins, queue-same, stage-same, credits-same, then-same, open-same, twins-step, same-trans}
+use Rattle.solo_run.proofs.Twins.{AreTwins, queue-same, stage-same, credits-same, open-same, twins-step, same-trans}
 
 -- what holds of the run's state in cycle t
 pub record IsKept (p : Plan) (d t : ℕ) (s : State) : Type 0 where
@@ -162,7 +164,7 @@ next_state-same : (p : Plan) (d t : ℕ) (v : Driver) (a s : State) (j : ℕ) (s
     → next_state p d v t a j state o ≡ next_state p d v t s j state o
 next_state-same p d t v a s j state None sound kept same at = refl
 next_state-same p d t v a s j state (Some h) sound kept same at =
-    let inside = attached-inside p j h sound at in
+    let inside = (host-within p j h sound at).0 in
     let fit = kept-fits p d t h.tile a s sound kept same inside in
     ap (λ r. if h.domain == d then after_got v j (after_taken v j state t (r && is_some (v.offer j state t))) t (v.hears j state t) (ejected_of (a h.tile).ejected) else state)
     (open-same p d (a h.tile) (s h.tile) (same h.tile inside) fit.current (omega arith))

@@ -1,10 +1,11 @@
 -- Searches for the least member.
 use Rattle.std.proofs.Common.{◌≡◌, ℕ, zero, suc, ◌<◌, ◌≤◌, Bool, true, Option, refl, sym, ◌∙◌, ap, arith, ◌&&◌, ⊎_elim}
-use Rattle.std.specs.Prelude.{Some, None, nat_le}
+use Rattle.std.specs.Prelude.{Some, None}
 use Rattle.std.specs.Option.{option_or}
 use Rattle.std.proofs.Math.Dec.{leb-zero}
 use Rattle.std.proofs.lemmas.Bool.{cases_lt}
 use Rattle.noc_model.specs.Pick.{least, number_if, pick}
+use Rattle.noc_model.proofs.Least.{least-same}
 use Rattle.solo_run.specs.Parts.{from_on}
 
 option-some : (o p : Option ℕ) (k : ℕ) → o ≡ Some k → option_or o p ≡ Some k
@@ -17,21 +18,6 @@ least-found f (suc n) k below none member = ⊎_elim
     (λ (less : k < n). option-some (least n f) (number_if (f n) n) k (least-found f n k less none member))
     (λ (more : n ≤ k). let e : n ≡ k = omega arith in rw (e, none, member) refl)
     (cases_lt k n)
-
--- a search needs only the members below its bound
-pub least-same : (n : ℕ) (f g : ℕ → Bool) → ((k : ℕ) → k < n → f k ≡ g k) → least n f ≡ least n g
-least-same zero f g same = refl
-least-same (suc n) f g same =
-    let before = least-same n f g (λ k less. same k (omega arith)) in
-    let here : f n ≡ g n = same n (omega arith) in
-    rw (before, here) refl
-
-pub pick-same : (n : ℕ) (f g : ℕ → Bool) (a b : ℕ) → ((k : ℕ) → k < n → f k ≡ g k) → a ≡ b → pick n f a ≡ pick n g b
-unfolding pick
-pick-same n f g a b same e =
-    let later = least-same n (λ k. nat_le a k && f k) (λ k. nat_le b k && g k) (λ k less. ap (λ x. nat_le a k && x) (same k less) ∙ ap (λ x. nat_le x k && g k) e) in
-    let all = least-same n f g same in
-    rw (later, all) refl
 
 all-from_zero : (n : ℕ) (set : ℕ → Bool) → least n (from_on 0 set) ≡ least n set
 all-from_zero n set = least-same n (from_on 0 set) set (λ k less. ap (λ b. b && set k) (leb-zero k))

@@ -14,16 +14,17 @@ use Rattle.noc_model.specs.Pick.{pick}
 use Rattle.noc_model.specs.Tile.{Tile, TileIn}
 use Rattle.noc_model.specs.Step.{routed, waits_for, class_of, free_channel, free_for, is_candidate, winner, is_place, taken_channel, activated, takes, is_ready_at, is_ready, grant_at, asked, asks_for, chosen, granted_to, grant, is_channel, leaves, front, with_channel, sent, is_on, is_tail_on, is_tail, flit_on, one_if, next_stage, is_ready_packet, is_open, word_in, next_packet, entry, is_dropped, next_current, comes_in, after, after_grant, next_ejected, tile_step}
 use Rattle.noc_model.specs.SoundState.{HasOutput}
-use Rattle.noc_model.proofs.Least.{pick-member}
+use Rattle.noc_model.proofs.Inputs.{input-within, pack-below}
+use Rattle.noc_model.proofs.Least.{pick-member, least-same, pick-same}
 use Rattle.noc_model.proofs.Switch.{asked-ready, grant-ready}
+use Rattle.noc_model.proofs.Switched.{output-below}
+use Rattle.noc_model.proofs.SamePlaces.{then-same}
 use Rattle.solo_run.specs.Channel.{InChannel}
 use Rattle.solo_run.specs.declared.tile.OutChannel.{OutChannel}
 use Rattle.solo_run.specs.declared.tile.Pointers.{Pointers}
 use Rattle.solo_run.specs.Parts.{channel_in, output_in, pointers_in}
 use Rattle.solo_run.specs.Same.{IsSame, IsSameIn}
-use Rattle.solo_run.proofs.Searches.{least-same, pick-same}
-use Rattle.solo_run.proofs.Outs.{output-below}
-use Rattle.solo_run.proofs.Classes.{class-there, width-within, channel-there, input-within}
+use Rattle.solo_run.proofs.Classes.{class-there, width-within}
 
 -- two states of a tile, and two of what comes in, that are the same at each place that there is
 pub record AreTwins (p : Plan) (d n : ℕ) (a b : Tile) (i j : TileIn) : Type 0 where
@@ -45,13 +46,6 @@ held-same p d a b o w same in_port in_w = ap (λ (x : OutChannel). x.held) (same
 pub credits-same : (p : Plan) (d : ℕ) (a b : Tile) (o w : ℕ) → IsSame p d a b → o < ports p → w < lanes p d → a.credits o w ≡ b.credits o w
 credits-same p d a b o w same in_port in_w = ap (λ (x : OutChannel). x.credits) (same.outputs o w in_port in_w)
 
-pub then-same : {A B : Type 0} (f g : A → Option B) (o q : Option A) → o ≡ q → ((x : A) → q ≡ Some x → f x ≡ g x) → option_and_then f o ≡ option_and_then g q
-then-same {A = A} {B = B} f g o q e each = ap (option_and_then f) e ∙ go q each
-  where
-    go : (q : Option A) → ((x : A) → q ≡ Some x → f x ≡ g x) → option_and_then f q ≡ option_and_then g q
-    go None each = refl
-    go (Some x) each = each x refl
-
 -- ---- the outputs' channels
 
 free_channel-same : (p : Plan) (d : ℕ) (a b : Tile) (o class : ℕ) → IsSame p d a b → 1 ≤ channels p d → o < ports p → class < classes p
@@ -59,12 +53,12 @@ free_channel-same : (p : Plan) (d : ℕ) (a b : Tile) (o class : ℕ) → IsSame
 free_channel-same p d a b o class same some in_port low =
     ap (option_map (λ j. class * channels p d + j))
     (least-same (at_local o 1 (channels p d)) (λ j. not (a.held o (class * channels p d + j))) (λ j. not (b.held o (class * channels p d + j)))
-    (λ j below. ap not (held-same p d a b o (class * channels p d + j) same in_port (channel-there p d class j low (width-within o (channels p d) j some below)))))
+    (λ j below. ap not (held-same p d a b o (class * channels p d + j) same in_port (pack-below p d class j low (width-within o (channels p d) j some below)))))
 
 free_for-same : (p : Plan) (d n : ℕ) (a b : Tile) (o port c : ℕ) → IsSame p d a b → 1 ≤ channels p d → o < ports p → c < lanes p d
     → free_for p d n a o port c ≡ free_for p d n b o port c
 free_for-same p d n a b o port c same some in_port in_c =
-    free_channel-same p d a b o (class_of p d n port c o) same some in_port (class-there p d n port c o some in_c)
+    free_channel-same p d a b o (class_of p d n port c o) same some in_port (class-there p d n port c o in_c)
 
 row-there : (p : Plan) (d k : ℕ) → k < ports p * lanes p d → (k / lanes p d < ports p) × (k % lanes p d < lanes p d)
 row-there p d k below = go (lanes p d) below

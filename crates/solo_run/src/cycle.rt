@@ -15,7 +15,7 @@ use crate::next::next_tile;
 use crate::sizes::{Here, lanes, places, ports, spot_of};
 use crate::tile::SoloTile;
 use flit_word::{LinkFlit, Offer};
-use noc_model::Plan;
+use noc_model::{Plan, Way};
 use std::alloc::{AllocError, Global};
 use tile_drive::Drive;
 
@@ -24,13 +24,7 @@ fn opposite(port: u32) -> u32
     requires { port < 7 }
     ensures { result ≡ opposite port }
 {
-    if port == 0 {
-        0
-    } else if port % 2 == 1 {
-        port + 1
-    } else {
-        port - 1
-    }
+    Way::of_port(port).opposite().port()
 }
 
 /// What arrives at a tile by a port.

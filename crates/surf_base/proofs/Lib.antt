@@ -5,3 +5,4 @@ pub mod NumbersLemmas
 mod Rows
 pub mod Blocks
 pub mod Numerals
+pub mod Ended

@@ -1,6 +1,7 @@
 //! Bytes that are gathered on their way to a sink.
 
 ghost use Rattle.std.specs.Prelude.{◌≡◌, ◌+◌, ◌≤◌, ◌++◌, ◌∷◌, List, ℕ, [], length, OnOk, IfOk, vec_len, vec_capacity};
+ghost use Rattle.std.specs.Option.{option_map_or, ForSome};
 ghost use Rattle.std.specs.Fmt.{decimal as decimal_digits};
 ghost use Rattle.surf_base.specs.Block.{Writes, stream};
 ghost use Rattle.surf_base.specs.Numbers.{labelled};
@@ -14,20 +15,21 @@ use std::marker::Model;
 /// How many bytes a block gathers.
 const ROOM: usize = 32768;
 
-/// Bytes on their way to a sink. Short pieces are handed on together, 16 KiB or more at a time.
+/// Bytes on their way to a sink. Short pieces are handed on together, 16 KiB or more at a time; a block without memory
+/// hands on each piece by itself.
 ///
 /// Contracts see it as the bytes that it has gathered.
 #[derive(Drop)]
 pub struct Block {
-    items: Vec<u8>,
+    items: Option<Vec<u8>>,
 }
 
 impl Model for Block {
     ghost Value = { List ℕ };
 
-    ghost view = { λ a. a.items.items };
+    ghost view = { λ a. option_map_or (λ v. v.items) a.items [] };
 
-    ghost invariant = { λ a. (vec_len a.items ≤ 32768) × (32768 ≤ vec_capacity a.items) };
+    ghost invariant = { λ a. ForSome a.items (λ v. (vec_len v ≤ 32768) × (32768 ≤ vec_capacity v)) };
 }
 
 /// Adds a piece for which there is room.
@@ -40,29 +42,83 @@ fn gather(bytes: &mut Vec<u8>, piece: &[u8])
     bytes.extend_from_slice(piece).unwrap();
 }
 
+/// Hands on all that is gathered.
+fn hand_on<O: Sink>(bytes: &mut Vec<u8>, sink: &mut O) -> Result<(), Failed>
+    ensures writes { Writes result (stream (O.written sink.old) bytes.old.items (O.faults sink.old))
+        (stream (O.written sink.new) bytes.new.items (O.faults sink.new)) [] }
+    ensures empty { OnOk result (bytes.new.items ≡ []) }
+    ensures len { vec_len bytes.new ≤ vec_len bytes.old }
+    ensures capacity { vec_capacity bytes.old ≤ vec_capacity bytes.new }
+{
+    match write_all(sink, bytes.as_slice()) {
+        Ok(()) => {
+            bytes.clear();
+            Ok(())
+        }
+        Err(fault) => Err(fault),
+    }
+}
+
+/// Adds a piece where nothing is gathered, or writes it where it is too long.
+fn put_first<O: Sink>(bytes: &mut Vec<u8>, sink: &mut O, piece: &[u8]) -> Result<(), Failed>
+    requires empty { bytes.old.items ≡ [] }
+    requires capacity { 32768 ≤ vec_capacity bytes.old }
+    ensures writes { Writes result (stream (O.written sink.old) bytes.old.items (O.faults sink.old))
+        (stream (O.written sink.new) bytes.new.items (O.faults sink.new)) piece.now }
+    ensures len { vec_len bytes.new ≤ 32768 }
+    ensures capacity { 32768 ≤ vec_capacity bytes.new }
+{
+    if piece.len() <= ROOM {
+        gather(bytes, piece);
+        return Ok(());
+    }
+    write_all(sink, piece)
+}
+
+/// Adds a piece, and hands on what is gathered before it where there is no room.
+fn put_in<O: Sink>(bytes: &mut Vec<u8>, sink: &mut O, piece: &[u8]) -> Result<(), Failed>
+    requires len { vec_len bytes.old ≤ 32768 }
+    requires capacity { 32768 ≤ vec_capacity bytes.old }
+    ensures writes { Writes result (stream (O.written sink.old) bytes.old.items (O.faults sink.old))
+        (stream (O.written sink.new) bytes.new.items (O.faults sink.new)) piece.now }
+    ensures len { vec_len bytes.new ≤ 32768 }
+    ensures capacity { 32768 ≤ vec_capacity bytes.new }
+{
+    if piece.len() <= ROOM - bytes.len() {
+        gather(bytes, piece);
+        return Ok(());
+    }
+    match hand_on(bytes, sink) {
+        Ok(()) => put_first(bytes, sink, piece),
+        Err(fault) => Err(fault),
+    }
+}
+
 impl Block {
     /// An empty block, which takes all its memory here.
     pub fn new(alloc: Global) -> Result<Block, AllocError>
         ensures { IfOk result (λ block. block ≡ []) }
     {
-        Ok(Block {
-            items: Vec::with_capacity(alloc, ROOM)?,
-        })
+        let items = Vec::with_capacity(alloc, ROOM)?;
+        Ok(Block { items: Some(items) })
     }
 
-    /// Adds a piece, and hands on what is gathered where there is no room. On an error the sink has got a front of what
+    /// A block without memory, which gathers nothing.
+    pub fn unbuffered() -> Block
+        ensures { result ≡ [] }
+    {
+        Block { items: None }
+    }
+
+    /// Adds a piece, and hands on what is gathered where there is no room. On an error the sink has got a prefix of what
     /// was gathered and the piece.
     pub fn put<O: Sink>(&mut self, sink: &mut O, piece: &[u8]) -> Result<(), Failed>
         ensures { Writes result (stream (O.written sink.old) self.old (O.faults sink.old))
             (stream (O.written sink.new) self.new (O.faults sink.new)) piece.now }
     {
-        if piece.len() <= ROOM - self.items.len() {
-            gather(&mut self.items, piece);
-            return Ok(());
-        }
-        match self.flush(sink) {
-            Ok(()) => write_past(self, sink, piece),
-            Err(fault) => Err(fault),
+        match &mut self.items {
+            Some(bytes) => put_in(bytes, sink, piece),
+            None => write_all(sink, piece),
         }
     }
 
@@ -108,27 +164,15 @@ impl Block {
         }
     }
 
-    /// Hands on all that is gathered. On an error the sink has got a front of it.
+    /// Hands on all that is gathered. On an error the sink has got a prefix of it.
     pub fn flush<O: Sink>(&mut self, sink: &mut O) -> Result<(), Failed>
         ensures writes { Writes result (stream (O.written sink.old) self.old (O.faults sink.old))
             (stream (O.written sink.new) self.new (O.faults sink.new)) [] }
         ensures empty { OnOk result (self.new ≡ []) }
     {
-        match write_all(sink, self.items.as_slice()) {
-            Ok(()) => {
-                self.items.clear();
-                Ok(())
-            }
-            Err(fault) => Err(fault),
+        match &mut self.items {
+            Some(bytes) => hand_on(bytes, sink),
+            None => Ok(()),
         }
     }
-}
-
-/// Writes a piece for which an empty block has no room.
-fn write_past<O: Sink>(block: &Block, sink: &mut O, piece: &[u8]) -> Result<(), Failed>
-    requires { block.now ≡ [] }
-    ensures { Writes result (stream (O.written sink.old) block.now (O.faults sink.old))
-        (stream (O.written sink.new) block.now (O.faults sink.new)) piece.now }
-{
-    write_all(sink, piece)
 }

@@ -8,7 +8,6 @@
 #![tactic(auto)]
 
 mod block;
-mod bytes;
 mod mem_files;
 mod mem_sink;
 mod numbers;
@@ -17,17 +16,18 @@ mod places;
 mod reading;
 mod real;
 mod script;
+mod seq;
 mod writing;
 
 pub use block::Block;
-pub use bytes::Bytes;
 pub use mem_files::MemFiles;
 pub use mem_sink::MemSink;
 pub use numbers::{decimal, hex8, read_decimal, read_hex};
 pub use outside::{Failed, Files, Sink};
-pub use places::{put_at, put_number_at};
+pub use places::{put_at, put_labelled_at, put_number_at};
 pub use reading::{TakeFault, read_whole};
 pub use real::{RealFiles, RealSink};
+pub use seq::{Bytes, Seq};
 pub use writing::write_all;
 
 #[cfg(test)]

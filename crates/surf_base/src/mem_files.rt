@@ -2,9 +2,9 @@ ghost use Rattle.std.specs.Prelude.{◌≡◌, ◌≢◌, ℕ, ◌+◌, ◌^◌,
 ghost use Rattle.surf_base.specs.Outside.{Absent, Holds, Rose, HandsOn, EndsAt};
 ghost use Rattle.surf_base.specs.HeldIn.{held_in, content_at};
 
-use crate::bytes::Bytes;
 use crate::outside::{Failed, Files};
 use crate::script::Script;
+use crate::seq::Bytes;
 use std::alloc::{AllocError, Global};
 
 #[derive(Drop)]

@@ -5,6 +5,7 @@ use std::test::Fail;
 #[test]
 fn bytes_are_a_list(rt: HostRuntime) -> Result<(), Fail> {
     let mut bytes = Bytes::new(rt.alloc());
+    assert!(rt; bytes.is_empty());
     bytes.push(7)?;
     bytes.push(9)?;
     let copy = bytes.copy(rt.alloc())?;
@@ -12,6 +13,9 @@ fn bytes_are_a_list(rt: HostRuntime) -> Result<(), Fail> {
     assert_eq!(rt; *copy.at(1), 9);
     let other = Bytes::from_slice(rt.alloc(), b"\x07\x09")?;
     assert_eq!(rt; other.as_slice(), copy.as_slice());
+    let mut words: Seq<u32> = Seq::with_capacity(rt.alloc(), 3)?;
+    words.push(5)?;
+    assert_eq!(rt; words.as_slice(), [5].as_slice());
     Ok(())
 }
 

@@ -1,8 +1,10 @@
 pub mod Texts
+pub mod Parts
 pub mod Wheeled
 pub mod Judged
 pub mod Ended
 pub mod Simulated
 pub mod Loadings
+pub mod Makings
 pub mod Readings
 pub mod Runnings

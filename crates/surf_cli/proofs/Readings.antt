@@ -1,178 +1,197 @@
 -- Files that are read one after another.
-use Rattle.std.proofs.Common.{◌⊎◌, inl, inr, ◌≡◌, ◌≢◌, ℕ, ◌+◌, ◌<◌, ◌≤◌, true, false, List, [], ◌∷◌, length, refl, sym, ap, ◌∙◌, subst, arith, if◌then◌else◌}
-use Rattle.std.specs.Prelude.{nat_le}
+use Rattle.std.proofs.Common.{◌⊎◌, inl, inr, ◌≡◌, ◌≢◌, ℕ, ◌+◌, ◌<◌, ◌≤◌, true, false, List, [], ◌∷◌, length, refl, sym, ap, ◌∙◌, subst, arith, if◌then◌else◌, Vec, Global}
+use Rattle.std.specs.Prelude.{nat_le, replicate, Option, Some, None, Result, Ok, Err, IfOk, IfErr, IsErrOf, vec_len}
 use Rattle.std.proofs.lemmas.Bool.Decides.{nat_tests}
+use Rattle.std.proofs.lemmas.List.{length-replicate}
 use Rattle.surf_base.specs.Outside.{Held, Untold, Absent, Holds, Rose}
-use Rattle.surf_cli.specs.declared.statuses.End.{End}
-use Rattle.surf_cli.specs.declared.statuses.End.TheVariants.{Good, Usage, Description, NotBuilt, Trace, Read, Write, Memory, TooLong}
-use Rattle.surf_cli.specs.Commands.{Command, Schedule, Check, Routes, Simulate, NamedFile, files_of}
-use Rattle.surf_cli.specs.Meaning.{Outcome, refused, with_file, with_files, content}
-use Rattle.surf_cli.specs.Runs.{IsMeant, TellsAll, NamesAbsent, WithinLast, AreLimited, GotFiles, Stopped, GotNone}
-
--- the files of a command can be counted
-pub files-limited : (c : Command) → AreLimited (files_of c)
-files-limited (Schedule description cycles) = (omega arith, tt)
-files-limited (Check description) = (omega arith, tt)
-files-limited (Routes description) = (omega arith, tt)
-files-limited (Simulate description trace cycles) = (omega arith, (omega arith, tt))
+use Rattle.surf_base.specs.Taken.{OnFailed, OnTooLong, UnlessTooLong}
+use Rattle.surf_base.specs.declared.reading.TakeFault.{TakeFault}
+use Rattle.surf_base.specs.declared.reading.TakeFault.TheVariants as fault
+use Rattle.surf_base.proofs.OutsideLemmas.{Rose-wider}
+use Rattle.surf_cli.specs.declared.files.FileKind.{FileKind}
+use Rattle.surf_cli.specs.declared.statuses.End.TheVariants.{TooLong}
+use Rattle.surf_cli.specs.Files.{NamedFile, limit_of}
+use Rattle.surf_cli.specs.Contents.{Contents, with_content}
+use Rattle.surf_cli.specs.Meaning.{Outcome, Stops, with_file, with_files}
+use Rattle.surf_cli.specs.Runs.{MayHold, MayHoldAll, NamesAbsent, WithinLast}
+use Rattle.surf_cli.specs.Reading.{GotFile, NotGot, GotFiles, GotNone, IsCause, StopsAt}
 
 -- ---- one file
 
-file-read : (held : Held) (limit : ℕ) (bytes : List ℕ) → held ≢ Absent → ((told : List ℕ) → held ≡ Holds told → bytes ≡ told) → length bytes ≤ limit → held ≢ Untold
-    → (next : List ℕ → Outcome) → with_file limit held next ≡ next bytes
-file-read Untold limit bytes present same short told next = absurd (told refl)
-file-read Absent limit bytes present same short told next = absurd (present refl)
-file-read (Holds content) limit bytes present same short told next =
-    let e : bytes ≡ content = same content refl in
-    let fits : nat_le (length content) limit ≡ true = (let l = ap length e in grind (arith, nat_tests)) in
-    ap (λ b. if b then next content else refused TooLong) fits ∙ ap next (sym e)
+read-short : (kind : FileKind) (bytes : List ℕ) → length bytes ≤ limit_of kind → (next : List ℕ → Outcome) → with_file kind (Some bytes) next ≡ next bytes
+read-short kind bytes short next =
+    let fits : nat_le (length bytes) (limit_of kind) ≡ true = grind (arith, nat_tests) in
+    ap (λ b. if b then next bytes else Stops TooLong) fits
 
--- a file was read whole
-pub one-read : (held held' : List ℕ → Held) (file : NamedFile) (faults faults' taken : ℕ) (bytes : List ℕ) → held' ≡ held → faults ≤ faults' → taken ≤ file.limit → length bytes ≡ taken
-    → (held file.name ≢ Absent) → ((told : List ℕ) → held file.name ≡ Holds told → bytes ≡ told) → GotFiles (file ∷ []) held held' faults faults' taken (bytes ∷ [])
-one-read held held' file faults faults' taken bytes stays counts within count present same = record {
+read-long : (kind : FileKind) (bytes : List ℕ) → limit_of kind < length bytes → (next : List ℕ → Outcome) → with_file kind (Some bytes) next ≡ Stops TooLong
+read-long kind bytes long next =
+    let past : nat_le (length bytes) (limit_of kind) ≡ false = grind (arith, nat_tests) in
+    ap (λ b. if b then next bytes else Stops TooLong) past
+
+may-hold : (held : Held) (bytes : List ℕ) → held ≢ Absent → ((told : List ℕ) → held ≡ Holds told → bytes ≡ told) → MayHold held (Some bytes)
+may-hold Untold bytes present same = tt
+may-hold Absent bytes present same = absurd (present refl)
+may-hold (Holds told) bytes present same = ap Some (same told refl)
+
+-- a file that was read whole
+pub file-got : (file : NamedFile) (held held' : List ℕ → Held) (a b t : ℕ) (r : Result (Vec ℕ Global) TakeFault) → held' ≡ held → a ≤ b → IfOk r (λ v. vec_len v ≡ t) → UnlessTooLong r (t ≤ limit_of file.kind)
+    → ((bytes : List ℕ) → held file.name ≡ Holds bytes → IfOk r (λ v. v.items ≡ bytes)) → (held file.name ≡ Absent → IsErrOf r fault.Failed) → IfOk r (λ v. GotFile file held held' a b t v.items)
+file-got file held held' a b t (Ok v) stays counts count within content absent = record {
   stays = stays;
   counts = counts;
   within = within;
-  meant = λ told next. file-read (held file.name) file.limit bytes present same (omega arith) told.0 (λ x. next (x ∷ []));
+  observed = may-hold (held file.name) v.items (λ gone. (let e = absent gone in absurd cc)) content;
+  short = omega (arith, count, within);
 }
+file-got file held held' a b t (Err f) stays counts count within content absent = tt
 
--- reading failed
-pub one-failed : (held held' : List ℕ → Held) (file : NamedFile) (faults faults' taken : ℕ) → held' ≡ held → faults ≤ faults' → Rose faults faults' ⊎ (held file.name ≡ Absent)
-    → GotNone (file ∷ []) held held' faults faults' taken Read
-one-failed held held' file faults faults' taken stays counts failed = record {
+-- what a file of which this is observed may hold
+some-content : Held → Option (List ℕ)
+some-content Untold = None
+some-content Absent = None
+some-content (Holds bytes) = Some bytes
+
+may-some : (held : Held) → MayHold held (some-content held)
+unfolding some-content
+may-some Untold = tt
+may-some Absent = refl
+may-some (Holds bytes) = refl
+
+-- what a file may hold that is too long
+record Long (kind : FileKind) (held : Held) : Type 0 where
+  content : Option (List ℕ)
+  observed : MayHold held content
+  meant : (next : List ℕ → Outcome) → with_file kind content next ≡ Stops TooLong
+
+long-content : (kind : FileKind) (held : Held) → held ≢ Absent → ((told : List ℕ) → held ≡ Holds told → limit_of kind < length told) → Long kind held
+long-content kind Untold present longer = record {
+  content = Some (replicate (limit_of kind + 1) 0);
+  observed = tt;
+  meant = read-long kind (replicate (limit_of kind + 1) 0) (omega (arith, length-replicate {A = ℕ} (limit_of kind + 1) 0));
+}
+long-content kind Absent present longer = absurd (present refl)
+long-content kind (Holds told) present longer = record { content = Some told; observed = refl; meant = read-long kind told (longer told refl) }
+
+not-got : (file : NamedFile) (held held' : List ℕ → Held) (a b t : ℕ) (f : TakeFault) → held' ≡ held → a ≤ b → OnFailed {T = Vec ℕ Global} (Err f) (Rose a b ⊎ (held file.name ≡ Absent))
+    → OnTooLong {T = Vec ℕ Global} (Err f) (t ≡ limit_of file.kind + 1) → ((bytes : List ℕ) → held file.name ≡ Holds bytes → OnTooLong {T = Vec ℕ Global} (Err f) (limit_of file.kind < length bytes))
+    → (held file.name ≡ Absent → f ≡ fault.Failed) → NotGot file held held' a b t f
+not-got file held held' a b t fault.Failed stays counts (inl rose) past longer absent = record {
   stays = stays;
   counts = counts;
-  cause = elim failed [ inl rose ↦ inl rose | inr gone ↦ inr (inl gone) ];
-  meant = λ told next. tt;
-  unread = λ is told next. elim failed [ inl rose ↦ inl rose | inr gone ↦ inr (ap (λ h. (with_file file.limit h (λ x. next (x ∷ []))).end) gone) ];
+  cause = inl rose;
+  content = some-content (held file.name);
+  observed = may-some (held file.name);
+  meant = λ next. inl rose;
 }
-
-file-long : (held : Held) (limit : ℕ) → held ≢ Absent → ((told : List ℕ) → held ≡ Holds told → limit < length told) → held ≢ Untold → (next : List ℕ → Outcome) → (with_file limit held next).end ≡ TooLong
-file-long Untold limit present longer told next = absurd (told refl)
-file-long Absent limit present longer told next = absurd (present refl)
-file-long (Holds content) limit present longer told next =
-    let less : limit < length content = longer content refl in
-    let past : nat_le (length content) limit ≡ false = grind (arith, nat_tests) in
-    ap (λ b. (if b then next content else refused TooLong).end) past
-
--- a file is too long
-pub one-long : (held held' : List ℕ → Held) (file : NamedFile) (faults faults' taken : ℕ) → held' ≡ held → faults ≤ faults' → taken ≡ file.limit + 1 → (held file.name ≢ Absent)
-    → ((told : List ℕ) → held file.name ≡ Holds told → file.limit < length told) → GotNone (file ∷ []) held held' faults faults' taken TooLong
-one-long held held' file faults faults' taken stays counts past present longer = record {
+not-got file held held' a b t fault.Failed stays counts (inr gone) past longer absent = record {
   stays = stays;
   counts = counts;
-  cause = inl past;
-  meant = λ told next. file-long (held file.name) file.limit present longer told.0 (λ x. next (x ∷ []));
-  unread = λ is told next. absurd cc;
+  cause = inr (inl gone);
+  content = None;
+  observed = subst (λ h. MayHold h None) (sym gone) refl;
+  meant = λ next. inr refl;
 }
-
--- memory is wanting
-pub none-for-memory : (held held' : List ℕ → Held) (files : List NamedFile) (faults faults' taken : ℕ) → held' ≡ held → faults ≤ faults' → GotNone files held held' faults faults' taken Memory
-none-for-memory held held' files faults faults' taken stays counts = record {
+not-got file held held' a b t fault.TooLong stays counts failed past longer absent =
+    let long = long-content file.kind (held file.name) (λ gone. (let e = absent gone in absurd cc)) longer in
+    record { stays = stays; counts = counts; cause = inl past; content = long.content; observed = long.observed; meant = long.meant }
+not-got file held held' a b t (fault.Memory refused) stays counts failed past longer absent = record {
   stays = stays;
   counts = counts;
   cause = tt;
-  meant = λ told next. tt;
-  unread = λ is told next. absurd cc;
+  content = some-content (held file.name);
+  observed = may-some (held file.name);
+  meant = λ next. tt;
 }
+
+-- a file that was not read
+pub file-not-got : (file : NamedFile) (held held' : List ℕ → Held) (a b t : ℕ) (r : Result (Vec ℕ Global) TakeFault) → held' ≡ held → a ≤ b → OnFailed r (Rose a b ⊎ (held file.name ≡ Absent))
+    → OnTooLong r (t ≡ limit_of file.kind + 1) → ((bytes : List ℕ) → held file.name ≡ Holds bytes → OnTooLong r (limit_of file.kind < length bytes)) → (held file.name ≡ Absent → IsErrOf r fault.Failed)
+    → IfErr r (λ f. NotGot file held held' a b t f)
+file-not-got file held held' a b t (Ok v) stays counts failed past longer absent = tt
+file-not-got file held held' a b t (Err f) stays counts failed past longer absent = not-got file held held' a b t f stays counts failed past longer (λ gone. (let e = absent gone in cc))
 
 -- ---- one after another
 
--- no file is read
-pub none-to-read : (held : List ℕ → Held) (faults taken : ℕ) → GotFiles [] held held faults faults taken []
-none-to-read held faults taken = record { stays = refl; counts = omega arith; within = tt; meant = λ told next. refl }
-
-within-more : (taken taken' : ℕ) (file : NamedFile) (files : List NamedFile) → taken ≤ file.limit → (files ≡ [] → taken' ≡ taken) → WithinLast taken' files → WithinLast taken' (file ∷ files)
+within-more : (taken taken' : ℕ) (file : NamedFile) (files : List NamedFile) → taken ≤ limit_of file.kind → (files ≡ [] → taken' ≡ taken) → WithinLast taken' files → WithinLast taken' (file ∷ files)
 within-more taken taken' file [] within stays more = (let e = stays refl in omega arith)
 within-more taken taken' file (next ∷ files) within stays more = more
 
-tells-on : (held held' : List ℕ → Held) (files : List NamedFile) → held' ≡ held → TellsAll held files → TellsAll held' files
-tells-on held held' files stays told = subst (λ h. TellsAll h files) (sym stays) told
+-- one file, and then the others
+pub files-read : (list : List NamedFile) (held held' held'' : List ℕ → Held) (file : NamedFile) (files : List NamedFile) (a b c t u : ℕ) (bytes : List ℕ) (got mid got' : Contents)
+    → list ≡ file ∷ files → GotFile file held held' a b t bytes → mid ≡ with_content file.kind bytes got → GotFiles files held' held'' b c u mid got' → (files ≡ [] → u ≡ t)
+    → GotFiles list held held'' a c u got got'
+files-read list held held' held'' file files a b c t u bytes got mid got' e first is more still =
+    subst (λ xs. GotFiles xs held held'' a c u got got') (sym e)
+    (record {
+      stays = more.stays ∙ first.stays;
+      counts = omega (arith, first.counts, more.counts);
+      within = within-more t u file files first.within still more.within;
+      contents = Some bytes ∷ more.contents;
+      observed = (first.observed, subst (λ h. MayHoldAll h files more.contents) first.stays more.observed);
+      meant = λ next.
+          read-short file.kind bytes first.short (λ x. with_files files more.contents (with_content file.kind x got) next)
+          ∙ ap (λ z. with_files files more.contents z next) (sym is)
+          ∙ more.meant next;
+    })
 
-both-read : (held held' held'' : List ℕ → Held) (file : NamedFile) (files : List NamedFile) (a b c t u : ℕ) (bytes : List ℕ) (contents : List (List ℕ))
-    → GotFiles (file ∷ []) held held' a b t (bytes ∷ []) → GotFiles files held' held'' b c u contents → (files ≡ [] → u ≡ t) → GotFiles (file ∷ files) held held'' a c u (bytes ∷ contents)
-both-read held held' held'' file files a b c t u bytes contents first more still = record {
-  stays = more.stays ∙ first.stays;
-  counts = omega (arith, first.counts, more.counts);
-  within = within-more t u file files first.within still more.within;
-  meant = λ told next.
-      first.meant (told.0, tt) (λ xs. with_files held files (λ rest. next (content xs 0 ∷ rest)))
-      ∙ ap (λ h. with_files h files (λ rest. next (bytes ∷ rest))) (sym first.stays)
-      ∙ more.meant (tells-on held held' files first.stays told.1) (λ rest. next (bytes ∷ rest));
-}
+-- what files of which this is observed may hold
+some-contents : (List ℕ → Held) → List NamedFile → List (Option (List ℕ))
+some-contents held [] = []
+some-contents held (file ∷ files) = some-content (held file.name) ∷ some-contents held files
 
--- the first is read, and then the others
-pub files-read : (list : List NamedFile) (held held' held'' : List ℕ → Held) (file : NamedFile) (files : List NamedFile) (a b c t u : ℕ) (bytes : List ℕ) (contents : List (List ℕ))
-    → list ≡ file ∷ files → GotFiles (file ∷ []) held held' a b t (bytes ∷ []) → GotFiles files held' held'' b c u contents → (files ≡ [] → u ≡ t)
-    → GotFiles list held held'' a c u (bytes ∷ contents)
-files-read list held held' held'' file files a b c t u bytes contents e first more still =
-    subst (λ xs. GotFiles xs held held'' a c u (bytes ∷ contents)) (sym e) (both-read held held' held'' file files a b c t u bytes contents first more still)
+may-some-all : (held : List ℕ → Held) (files : List NamedFile) → MayHoldAll held files (some-contents held files)
+unfolding some-contents
+may-some-all held [] = tt
+may-some-all held (file ∷ files) = (may-some (held file.name), may-some-all held files)
 
-stopped-first : (file : NamedFile) (files : List NamedFile) (end : End) (held : List ℕ → Held) (a b t : ℕ) → Stopped (file ∷ []) end held a b t → Stopped (file ∷ files) end held a b t
-stopped-first file files Read held a b t (inl rose) = inl rose
-stopped-first file files Read held a b t (inr (inl gone)) = inr (inl gone)
-stopped-first file files Read held a b t (inr (inr never)) = absurd never
-stopped-first file files TooLong held a b t (inl past) = inl past
-stopped-first file files TooLong held a b t (inr never) = absurd never
-stopped-first file files Memory held a b t cause = tt
-stopped-first file files Good held a b t cause = absurd cause
-stopped-first file files Usage held a b t cause = absurd cause
-stopped-first file files (Description f) held a b t cause = absurd cause
-stopped-first file files NotBuilt held a b t cause = absurd cause
-stopped-first file files (Trace f) held a b t cause = absurd cause
-stopped-first file files Write held a b t cause = absurd cause
+cause-first : (file : NamedFile) (files : List NamedFile) (f : TakeFault) (held : List ℕ → Held) (a b t : ℕ) → IsCause (file ∷ []) f held a b t → IsCause (file ∷ files) f held a b t
+cause-first file files fault.Failed held a b t (inl rose) = inl rose
+cause-first file files fault.Failed held a b t (inr (inl gone)) = inr (inl gone)
+cause-first file files fault.Failed held a b t (inr (inr never)) = absurd never
+cause-first file files fault.TooLong held a b t (inl past) = inl past
+cause-first file files fault.TooLong held a b t (inr never) = absurd never
+cause-first file files (fault.Memory refused) held a b t cause = tt
 
 -- the first is not read
-pub none-first : (list : List NamedFile) (held held' : List ℕ → Held) (file : NamedFile) (files : List NamedFile) (a b t : ℕ) (end : End)
-    → list ≡ file ∷ files → GotNone (file ∷ []) held held' a b t end → GotNone list held held' a b t end
-none-first list held held' file files a b t end e first =
-    subst (λ xs. GotNone xs held held' a b t end) (sym e)
+pub none-first : (list : List NamedFile) (held held' : List ℕ → Held) (file : NamedFile) (files : List NamedFile) (a b t : ℕ) (f : TakeFault)
+    → list ≡ file ∷ files → NotGot file held held' a b t f → GotNone list held held' a b t f
+none-first list held held' file files a b t f e first =
+    subst (λ xs. GotNone xs held held' a b t f) (sym e)
     (record {
       stays = first.stays;
       counts = first.counts;
-      cause = stopped-first file files end held a b t first.cause;
-      meant = λ told next. first.meant (told.0, tt) (λ xs. with_files held files (λ rest. next (content xs 0 ∷ rest)));
-      unread = λ is told next. first.unread is (told.0, tt) (λ xs. with_files held files (λ rest. next (content xs 0 ∷ rest)));
+      some = λ none. absurd cc;
+      cause = cause-first file files f held a b t first.cause;
+      contents = first.content ∷ some-contents held files;
+      observed = (first.observed, may-some-all held files);
+      meant = λ got next. first.meant (λ bytes. with_files files (some-contents held files) (with_content file.kind bytes got) next);
     })
 
-rose-later : (a b c : ℕ) → a ≤ b → Rose b c → Rose a c
-rose-later a b c less (inl more) = inl (omega arith)
-rose-later a b c less (inr most) = inr most
+cause-later : (file : NamedFile) (files : List NamedFile) (f : TakeFault) (held held' : List ℕ → Held) (a b c t : ℕ) → held' ≡ held → a ≤ b → IsCause files f held' b c t → IsCause (file ∷ files) f held a c t
+cause-later file files fault.Failed held held' a b c t stays less (inl rose) = inl (Rose-wider a b c c less (omega arith) rose)
+cause-later file files fault.Failed held held' a b c t stays less (inr gone) = inr (inr (subst (λ h. NamesAbsent h files) stays gone))
+cause-later file files fault.TooLong held held' a b c t stays less past = inr past
+cause-later file files (fault.Memory refused) held held' a b c t stays less cause = tt
 
-stopped-later : (file : NamedFile) (files : List NamedFile) (end : End) (held held' : List ℕ → Held) (a b c t : ℕ) → held' ≡ held → a ≤ b → Stopped files end held' b c t → Stopped (file ∷ files) end held a c t
-stopped-later file files Read held held' a b c t stays less (inl rose) = inl (rose-later a b c less rose)
-stopped-later file files Read held held' a b c t stays less (inr gone) = inr (inr (subst (λ h. NamesAbsent h files) stays gone))
-stopped-later file files TooLong held held' a b c t stays less past = inr past
-stopped-later file files Memory held held' a b c t stays less cause = tt
-stopped-later file files Good held held' a b c t stays less cause = absurd cause
-stopped-later file files Usage held held' a b c t stays less cause = absurd cause
-stopped-later file files (Description f) held held' a b c t stays less cause = absurd cause
-stopped-later file files NotBuilt held held' a b c t stays less cause = absurd cause
-stopped-later file files (Trace f) held held' a b c t stays less cause = absurd cause
-stopped-later file files Write held held' a b c t stays less cause = absurd cause
-
-then-none : (held held' held'' : List ℕ → Held) (file : NamedFile) (files : List NamedFile) (a b c t u : ℕ) (bytes : List ℕ) (end : End)
-    → GotFiles (file ∷ []) held held' a b t (bytes ∷ []) → GotNone files held' held'' b c u end → GotNone (file ∷ files) held held'' a c u end
-then-none held held' held'' file files a b c t u bytes end first more = record {
-  stays = more.stays ∙ first.stays;
-  counts = omega (arith, first.counts, more.counts);
-  cause = stopped-later file files end held held' a b c u first.stays first.counts more.cause;
-  meant = λ told next. subst (λ m. IsMeant m end) (sym (so-far told next)) (more.meant (tells-on held held' files first.stays told.1) (λ rest. next (bytes ∷ rest)));
-  unread = λ is told next.
-      elim (more.unread is (tells-on held held' files first.stays told.1) (λ rest. next (bytes ∷ rest))) [
-        | inl rose ↦ inl (rose-later a b c first.counts rose)
-        | inr ends ↦ inr (ap (λ (m : Outcome). m.end) (so-far told next) ∙ ends)
-      ];
-}
-  where
-    so-far : TellsAll held (file ∷ files) → (next : List (List ℕ) → Outcome) → with_files held (file ∷ files) next ≡ with_files held' files (λ rest. next (bytes ∷ rest))
-    so-far told next =
-        first.meant (told.0, tt) (λ xs. with_files held files (λ rest. next (content xs 0 ∷ rest)))
-        ∙ ap (λ h. with_files h files (λ rest. next (bytes ∷ rest))) (sym first.stays)
+stops-later : (m m' : Outcome) (f : TakeFault) (a b c : ℕ) → m ≡ m' → a ≤ b → StopsAt m' f b c → StopsAt m f a c
+stops-later m m' fault.Failed a b c e less (inl rose) = inl (Rose-wider a b c c less (omega arith) rose)
+stops-later m m' fault.Failed a b c e less (inr ends) = inr (e ∙ ends)
+stops-later m m' fault.TooLong a b c e less ends = e ∙ ends
+stops-later m m' (fault.Memory refused) a b c e less ends = tt
 
 -- a later one is not read
-pub none-later : (list : List NamedFile) (held held' held'' : List ℕ → Held) (file : NamedFile) (files : List NamedFile) (a b c t u : ℕ) (bytes : List ℕ) (end : End)
-    → list ≡ file ∷ files → GotFiles (file ∷ []) held held' a b t (bytes ∷ []) → GotNone files held' held'' b c u end → GotNone list held held'' a c u end
-none-later list held held' held'' file files a b c t u bytes end e first more =
-    subst (λ xs. GotNone xs held held'' a c u end) (sym e) (then-none held held' held'' file files a b c t u bytes end first more)
+pub none-later : (list : List NamedFile) (held held' held'' : List ℕ → Held) (file : NamedFile) (files : List NamedFile) (a b c t u : ℕ) (bytes : List ℕ) (f : TakeFault)
+    → list ≡ file ∷ files → GotFile file held held' a b t bytes → GotNone files held' held'' b c u f → GotNone list held held'' a c u f
+none-later list held held' held'' file files a b c t u bytes f e first more =
+    subst (λ xs. GotNone xs held held'' a c u f) (sym e)
+    (record {
+      stays = more.stays ∙ first.stays;
+      counts = omega (arith, first.counts, more.counts);
+      some = λ none. absurd cc;
+      cause = cause-later file files f held held' a b c u first.stays first.counts more.cause;
+      contents = Some bytes ∷ more.contents;
+      observed = (first.observed, subst (λ h. MayHoldAll h files more.contents) first.stays more.observed);
+      meant = λ got next.
+          stops-later _ _ f a b c (read-short file.kind bytes first.short (λ x. with_files files more.contents (with_content file.kind x got) next)) first.counts
+          (more.meant (with_content file.kind bytes got) next);
+    })

@@ -1,5 +1,5 @@
 -- The events of a run that a whole trace drives are those of each domain's own entries.
-use Rattle.std.proofs.Common.{◌≡◌, ◌<◌, ◌==◌, ℕ, true, List, length, filter, refl, sym, ap, ◌∙◌, subst, arith, Result, Ok, Err, IfOk}
+use Rattle.std.proofs.Common.{◌≡◌, ◌<◌, ◌==◌, ℕ, true, List, length, filter, refl, sym, ap, ◌∙◌, subst, arith}
 use Rattle.std.specs.Prelude.{slice_get}
 use Rattle.std.proofs.lemmas.Bool.Decides.{nat_tests}
 use Rattle.noc_model.specs.declared.Event.{Event}
@@ -7,12 +7,14 @@ use Rattle.noc_model.specs.declared.Ejected.{Ejected}
 use Rattle.noc_model.specs.Plan.{Plan}
 use Rattle.noc_model.specs.Run.{start}
 use Rattle.noc_model.specs.Driver.{Driver, driven_events}
-use Rattle.noc_model.proofs.OwnPart.{IsOwn, DoAlike, driven_events-same}
+use Rattle.noc_model.proofs.OwnAttachments.{IsOwn, DoAlike, driven_events-same}
 use Rattle.trace_read.specs.declared.entries.Entry.{Entry}
 use Rattle.trace_read.specs.Restrict.{is_domain, of_domain}
 use Rattle.tile_drive.specs.TraceDriver.{trace_driver, untaken}
 use Rattle.tile_drive.proofs.Restricted.{restricted_offer, restricted_hears}
-use Rattle.surf_cli.specs.Simulate.{AreAlone}
+use Rattle.noc_model.specs.Report.{report}
+use Rattle.surf_cli.specs.Simulate.{AreAlone, events_of, events_alone, report_text, reports_of, reports_text}
+use Rattle.surf_cli.proofs.Texts.{texts-same}
 
 own-domain : (p : Plan) (d j : ℕ) → IsOwn p d j → is_domain d (slice_get p.hosts j) ≡ true
 own-domain p d j own =
@@ -45,7 +47,12 @@ run-alone p q v states events es cycles same driver untouched each d less =
     ∙ ap (λ (w : Driver). driven_events p d w cycles 0 (start p) states) driver
     ∙ driven_events-same p d (trace_driver p es) (trace_driver p (of_domain p d es)) cycles 0 (start p) states (λ j. untaken) (λ j own. alike p d j es own) (λ j own. untouched j)
 
--- what an answer says, weakened
-pub if-so : {T E : Type 0} (r : Result T E) (P Q : T → Type 0) → ((x : T) → P x → Q x) → IfOk r P → IfOk r Q
-if-so (Ok x) P Q f h = f x h
-if-so (Err e) P Q f h = tt
+report-alone : (p : Plan) (events : List Event) (es : List Entry) (cycles d : ℕ) → events_of events d ≡ events_alone p es cycles d → report p d (events_of events d) ≡ report_text p es cycles d
+unfolding report_text
+report-alone p events es cycles d same = ap (report p d) same
+
+-- the reports of these events are those of each domain alone
+pub reports-alone : (p : Plan) (events : List Event) (es : List Entry) (cycles : ℕ) → AreAlone p events es cycles → reports_of p (events_of events) ≡ reports_text p es cycles
+unfolding reports_of
+reports-alone p events es cycles alone =
+    texts-same (length p.domains) (λ d. report p d (events_of events d)) (report_text p es cycles) (λ d less. report-alone p events es cycles d (alone d less))

@@ -1,6 +1,6 @@
 -- Texts of a loop, put one after another.
 use Rattle.std.proofs.Common.{◌≡◌, ℕ, zero, suc, ◌+◌, ◌-◌, ◌<◌, List, [], ◌∷◌, ◌++◌, refl, sym, ap, ◌∙◌, subst, arith}
-use Rattle.std.specs.Prelude.{flat_map, Some, None, Result, pos}
+use Rattle.std.specs.Prelude.{flat_map, Some, None, Result, Err, pos}
 use Rattle.noc_model.specs.Plan.{Plan, name_of}
 use Rattle.noc_model.specs.Place.{neighbour, owner}
 use Rattle.std.specs.List.{range_with_len}
@@ -8,7 +8,8 @@ use Rattle.std.proofs.lemmas.List.{append-nil}
 use Rattle.std.proofs.lemmas.List.Concat.{flat_map-append}
 use Rattle.surf_base.specs.Block.{Stream, Puts, BreaksOff, Writes}
 use Rattle.surf_base.proofs.Blocks.{Puts-then, BreaksOff-then, BreaksOff-more}
-use Rattle.surf_cli.specs.Schedule.{texts_below, port_text, owner_line, field, link_text}
+use Rattle.surf_cli.specs.Texts.{texts_below}
+use Rattle.surf_cli.specs.Schedule.{port_text, owner_line, link_line}
 
 range-append : (a i j : ℕ) → range_with_len a (i + j) ≡ range_with_len a i ++ range_with_len (a + i) j
 range-append a zero j = let n : 0 + j ≡ j = omega arith in let b : a + 0 ≡ a = omega arith in rw (n, b) refl
@@ -43,6 +44,18 @@ BreaksOff-loop s t u i n text less p q =
 pub Puts-loop : (s t : Stream) (i n : ℕ) (text : ℕ → List ℕ) → i ≡ n → Puts s t (texts_below i text) → Puts s t (texts_below n text)
 Puts-loop s t i n text e p = subst (λ k. Puts s t (texts_below k text)) e p
 
+-- what broke off is the answer of an exit by `?`
+pub Writes-broken : {T E : Type 0} (r : Result T E) (e : E) (s t : Stream) (bytes : List ℕ) → r ≡ Err e → BreaksOff s t bytes → Writes r s t bytes
+Writes-broken r e s t bytes is p = subst (λ x. Writes x s t bytes) (sym is) p
+
+same-from : (a n : ℕ) (f g : ℕ → List ℕ) → ((i : ℕ) → i < a + n → f i ≡ g i) → flat_map f (range_with_len a n) ≡ flat_map g (range_with_len a n)
+same-from a zero f g same = refl
+same-from a (suc n) f g same = ap (λ t. f a ++ t) (same-from (a + 1) n f g (λ i less. same i (omega arith))) ∙ ap (λ t. t ++ flat_map g (range_with_len (a + 1) n)) (same a (omega arith))
+
+-- texts that are the same one by one
+pub texts-same : (n : ℕ) (f g : ℕ → List ℕ) → ((i : ℕ) → i < n → f i ≡ g i) → texts_below n f ≡ texts_below n g
+texts-same n f g same = same-from 0 n f g (λ i less. same i (omega arith))
+
 -- a port with a link has a line
 pub port_text-some : (p : Plan) (t n port m : ℕ) → neighbour p n port ≡ Some m → port_text p t n port ≡ owner_line p t n port
 unfolding port_text
@@ -55,6 +68,6 @@ port_text-none p t n port e = rw e refl
 
 -- what a line says is the text of its port
 pub Writes-port : {T E : Type 0} (r : Result T E) (s u : Stream) (p : Plan) (t n port m : ℕ) (name : List ℕ) → neighbour p n port ≡ Some m
-    → name ≡ name_of p (owner p n port (pos t)) → Writes r s u (field t ++ link_text n port name) → Writes r s u (port_text p t n port)
+    → name ≡ name_of p (owner p n port (pos t)) → Writes r s u (link_line t n port name) → Writes r s u (port_text p t n port)
 Writes-port r s u p t n port m name link named h =
-    subst (Writes r s u) (sym (port_text-some p t n port m link)) (subst (λ (x : List ℕ). Writes r s u (field t ++ link_text n port x)) named h)
+    subst (Writes r s u) (sym (port_text-some p t n port m link)) (subst (λ (x : List ℕ). Writes r s u (link_line t n port x)) named h)

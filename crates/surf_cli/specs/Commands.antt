@@ -1,58 +1,48 @@
 -- The commands, by their words.
-use Rattle.std.specs.Prelude.{ℕ, ◌≤◌, List, [], ◌∷◌, codes, if◌then◌else◌, Option, Some, None, option_map}
+use Rattle.std.specs.Prelude.{ℕ, List, [], ◌∷◌, codes, if◌then◌else◌, Option, Some, None, option_map}
 use Rattle.std.specs.Str.{bytes_eq}
 use Rattle.surf_base.specs.Numbers.{decimal_in}
+use Rattle.surf_cli.specs.declared.files.FileKind.TheVariants.{Description, Trace}
+use Rattle.surf_cli.specs.Limits.{table_cycles, run_cycles}
+use Rattle.surf_cli.specs.Files.{NamedFile, file_of}
+use Rattle.surf_cli.specs.Jobs.{Schedule, Check, Routes, Simulate, Command, command}
 
--- what a command asks for, with the names of its files
-pub data Command : Type 0 where
-  Schedule : (description : List ℕ) → (cycles : ℕ) → Command
-  Check : (description : List ℕ) → Command
-  Routes : (description : List ℕ) → Command
-  Simulate : (description trace : List ℕ) → (cycles : ℕ) → Command
+-- schedule DESC CYCLES
+abbrev pub schedule_words : List (List ℕ) → Option Command
+schedule_words (description ∷ cycles ∷ []) = option_map (λ n. command (file_of Description description ∷ []) (Schedule n)) (decimal_in table_cycles cycles)
+schedule_words _ = None
 
--- a name and a count
-abbrev pub schedule_of : List ℕ → List ℕ → Option Command
-schedule_of description cycles = option_map (Schedule description) (decimal_in 4096 cycles)
+-- check DESC
+abbrev pub check_words : List (List ℕ) → Option Command
+check_words (description ∷ []) = Some (command (file_of Description description ∷ []) Check)
+check_words _ = None
 
--- two names and a count
-abbrev pub simulate_of : List ℕ → List ℕ → List ℕ → Option Command
-simulate_of description trace cycles = option_map (Simulate description trace) (decimal_in 65536 cycles)
+-- routes DESC
+abbrev pub routes_words : List (List ℕ) → Option Command
+routes_words (description ∷ []) = Some (command (file_of Description description ∷ []) Routes)
+routes_words _ = None
+
+-- simulate DESC TRACE CYCLES
+abbrev pub simulate_words : List (List ℕ) → Option Command
+simulate_words (description ∷ trace ∷ cycles ∷ []) =
+    option_map (λ n. command (file_of Description description ∷ file_of Trace trace ∷ []) (Simulate n)) (decimal_in run_cycles cycles)
+simulate_words _ = None
+
+-- the command of a verb and the words after it
+abbrev pub command_by : List ℕ → List (List ℕ) → Option Command
+command_by verb args =
+    if bytes_eq verb (codes "schedule") then schedule_words args
+    else if bytes_eq verb (codes "check") then check_words args
+    else if bytes_eq verb (codes "routes") then routes_words args
+    else if bytes_eq verb (codes "simulate") then simulate_words args
+    else None
 
 -- the command that the words are; nothing where they are no row of the table of commands
 abbrev pub command_of : List (List ℕ) → Option Command
-command_of (verb ∷ description ∷ trace ∷ cycles ∷ []) =
-    if bytes_eq verb (codes "simulate") then simulate_of description trace cycles else None
-command_of (verb ∷ description ∷ cycles ∷ []) = if bytes_eq verb (codes "schedule") then schedule_of description cycles else None
-command_of (verb ∷ description ∷ []) =
-    if bytes_eq verb (codes "check") then Some (Check description) else if bytes_eq verb (codes "routes") then Some (Routes description) else None
-command_of _ = None
-
--- a file that a command names, and the most bytes that it may have
-pub record NamedFile : Type 0 where
-  pub name : List ℕ
-  pub limit : ℕ
-
--- the file of a description
-abbrev pub description_file : List ℕ → NamedFile
-description_file name = record { name = name; limit = 1048576 }
-
--- the file of a trace
-abbrev pub trace_file : List ℕ → NamedFile
-trace_file name = record { name = name; limit = 67108864 }
-
--- the files of a command, in the order of its words
-abbrev pub files_of : Command → List NamedFile
-files_of (Schedule description cycles) = description_file description ∷ []
-files_of (Check description) = description_file description ∷ []
-files_of (Routes description) = description_file description ∷ []
-files_of (Simulate description trace cycles) = description_file description ∷ trace_file trace ∷ []
+command_of [] = None
+command_of (verb ∷ args) = command_by verb args
 
 -- the files that the words name
 abbrev pub files_named : Option Command → List NamedFile
 files_named None = []
-files_named (Some command) = files_of command
-
--- a simulation has at most so many cycles
-abbrev pub HasFewCycles : Command → Type 0
-HasFewCycles (Simulate description trace cycles) = cycles ≤ 65536
-HasFewCycles _ = Unit {0}
+files_named (Some c) = c.files

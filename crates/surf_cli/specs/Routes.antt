@@ -2,15 +2,11 @@
 use Rattle.std.specs.Prelude.{ℕ, List, [], ◌∷◌, ◌++◌, decimal}
 use Rattle.noc_model.specs.Plan.{Plan, tiles}
 use Rattle.noc_model.specs.Place.{route, class_after}
-use Rattle.surf_cli.specs.Schedule.{texts_below, field}
-
--- the rest of a line from the port on: port and class
-abbrev pub way_text : ℕ → ℕ → List ℕ
-way_text port class = field port ++ (decimal class ++ 10 ∷ [])
+use Rattle.surf_cli.specs.Texts.{texts_below, field}
 
 -- a line: two tiles, port and class
 abbrev pub route_line : ℕ → ℕ → ℕ → ℕ → List ℕ
-route_line n dest port class = field n ++ (field dest ++ way_text port class)
+route_line n dest port class = field n ++ field dest ++ field port ++ (decimal class ++ 10 ∷ [])
 
 -- the port by which a packet leaves tile n for dest, and the class of that output for one that enters the network at n
 unfoldable pub route_text : Plan → ℕ → ℕ → List ℕ

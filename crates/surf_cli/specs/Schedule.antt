@@ -1,24 +1,16 @@
 -- The owner table: who owns each link in each cycle.
-use Rattle.std.specs.Prelude.{ℕ, List, [], ◌∷◌, ◌++◌, is_some, if◌then◌else◌, pos, decimal, flat_map}
-use Rattle.std.specs.List.{range_with_len}
+use Rattle.std.specs.Prelude.{ℕ, List, [], ◌∷◌, ◌++◌, is_some, if◌then◌else◌, pos}
 use Rattle.noc_model.specs.Plan.{Plan, tiles, ports, name_of}
 use Rattle.noc_model.specs.Place.{neighbour, owner}
+use Rattle.surf_cli.specs.Texts.{texts_below, field}
 
--- the texts of 0 to n - 1, one after another
-abbrev pub texts_below : ℕ → (ℕ → List ℕ) → List ℕ
-texts_below n text = flat_map text (range_with_len 0 n)
+-- a line: cycle, tile, port and a name
+abbrev pub link_line : ℕ → ℕ → ℕ → List ℕ → List ℕ
+link_line t n port name = field t ++ field n ++ field port ++ name ++ 10 ∷ []
 
--- a number in decimal, and a blank
-abbrev pub field : ℕ → List ℕ
-field n = decimal n ++ 32 ∷ []
-
--- a line from the tile on: tile, port and a name
-abbrev pub link_text : ℕ → ℕ → List ℕ → List ℕ
-link_text n port name = field n ++ (field port ++ (name ++ 10 ∷ []))
-
--- the line of a link: cycle, tile, port and the name of its owner
+-- the line of a link, with the name of its owner
 abbrev pub owner_line : Plan → ℕ → ℕ → ℕ → List ℕ
-owner_line p t n port = field t ++ link_text n port (name_of p (owner p n port (pos t)))
+owner_line p t n port = link_line t n port (name_of p (owner p n port (pos t)))
 
 -- only a port with a link has a line
 unfoldable pub port_text : Plan → ℕ → ℕ → ℕ → List ℕ

@@ -10,11 +10,15 @@ use Rattle.noc_model.specs.Report.{report}
 use Rattle.trace_read.specs.declared.entries.Entry.{Entry}
 use Rattle.trace_read.specs.Restrict.{of_domain}
 use Rattle.tile_drive.specs.TraceDriver.{trace_driver, untaken}
-use Rattle.surf_cli.specs.Schedule.{texts_below}
+use Rattle.surf_cli.specs.Texts.{texts_below}
 
 -- the plans whose networks are simulated so far: one tile of a mesh with one side, and one channel for each domain
 abbrev pub is_built : Plan → Bool
 is_built p = not p.torus && ((length p.dims == 1) && ((tiles p == 1) && list_all (λ (x : DomainPart). x.channels == 1) p.domains))
+
+-- the events of domain d among these
+abbrev pub events_of : List Event → ℕ → List Event
+events_of events d = filter (λ (e : Event). e.domain == d) events
 
 -- the events of domain d in a network that holds this domain alone, driven by its own entries
 abbrev pub events_alone : Plan → List Entry → ℕ → ℕ → List Event
@@ -22,12 +26,16 @@ events_alone p es cycles d = driven_events p d (trace_driver p (of_domain p d es
 
 -- each domain's events among these are those of a network that holds this domain alone
 abbrev pub AreAlone : Plan → List Event → List Entry → ℕ → Type 0
-AreAlone p events es cycles = (d : ℕ) → d < length p.domains → filter (λ (e : Event). e.domain == d) events ≡ events_alone p es cycles d
+AreAlone p events es cycles = (d : ℕ) → d < length p.domains → events_of events d ≡ events_alone p es cycles d
 
--- the report of domain d
+-- the reports of all domains, in order, each of its own events
+unfoldable pub reports_of : Plan → (ℕ → List Event) → List ℕ
+reports_of p events = texts_below (length p.domains) (λ d. report p d (events d))
+
+-- the report of domain d of a run
 unfoldable pub report_text : Plan → List Entry → ℕ → ℕ → List ℕ
 report_text p es cycles d = report p d (events_alone p es cycles d)
 
--- the reports of all domains, in order
-unfoldable pub reports_text : Plan → List Entry → ℕ → List ℕ
+-- the reports of a run
+abbrev pub reports_text : Plan → List Entry → ℕ → List ℕ
 reports_text p es cycles = texts_below (length p.domains) (report_text p es cycles)

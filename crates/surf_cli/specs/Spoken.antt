@@ -1,16 +1,36 @@
--- What the code's requests stand for.
-use Rattle.surf_cli.specs.declared.words.Request.{Request}
-use Rattle.surf_cli.specs.declared.words.Request.TheVariants.{Schedule, Check, Routes, Simulate}
-use Rattle.surf_cli.specs.declared.words.NamedFile as code
-use Rattle.surf_cli.specs.Commands as spec
-use Rattle.surf_cli.specs.Commands.{Command, NamedFile}
+-- What the code's values stand for.
+use Rattle.std.specs.Prelude.{List, [], ◌∷◌}
+use Rattle.surf_cli.specs.declared.files.NamedFile as code_file
+use Rattle.surf_cli.specs.declared.files.NamedFiles as code_files
+use Rattle.surf_cli.specs.declared.files.NamedFiles.TheVariants.{One, Two}
+use Rattle.surf_cli.specs.declared.contents.Contents as code_contents
+use Rattle.surf_cli.specs.declared.commands.Job as code_job
+use Rattle.surf_cli.specs.declared.commands.Job.TheVariants as code
+use Rattle.surf_cli.specs.declared.commands.Command as code_command
+use Rattle.surf_cli.specs.Files.{NamedFile}
+use Rattle.surf_cli.specs.Contents.{Contents}
+use Rattle.surf_cli.specs.Jobs.{Job, Schedule, Check, Routes, Simulate, Command}
 
-abbrev pub command : Request → Command
-command (Schedule description cycles) = spec.Schedule description.now cycles
-command (Check description) = spec.Check description.now
-command (Routes description) = spec.Routes description.now
-command (Simulate description trace cycles) = spec.Simulate description.now trace.now cycles
+-- a named file
+abbrev pub named : code_file.NamedFile → NamedFile
+named file = record { kind = file.kind; name = file.name.now }
 
--- what the code's named files stand for
-abbrev pub named : code.NamedFile → NamedFile
-named file = record { name = file.name.now; limit = file.limit }
+-- the files of a command, in order
+abbrev pub listed : code_files.NamedFiles → List NamedFile
+listed (One first) = named first ∷ []
+listed (Two first second) = named first ∷ named second ∷ []
+
+-- what files hold
+abbrev pub gathered : code_contents.Contents → Contents
+gathered contents = record { description = contents.description.items; trace = contents.trace.items }
+
+-- what is done with it
+abbrev pub job : code_job.Job → Job
+job (code.Schedule cycles) = Schedule cycles
+job code.Check = Check
+job code.Routes = Routes
+job (code.Simulate cycles) = Simulate cycles
+
+-- a command
+abbrev pub command : code_command.Command → Command
+command c = record { files = listed c.files; job = job c.job }

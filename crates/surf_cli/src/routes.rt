@@ -1,42 +1,31 @@
 //! The table of routes: a line for each way from a tile to a tile.
 
-ghost use Rattle.std.specs.Prelude.{◌<◌, ◌++◌, length};
+ghost use Rattle.std.specs.Prelude.{◌<◌};
 ghost use Rattle.surf_base.specs.Block.{Writes, stream};
 ghost use Rattle.noc_model.specs.Plan.{tiles};
-ghost use Rattle.surf_cli.specs.Schedule.{field};
-ghost use Rattle.surf_cli.specs.Routes.{way_text, route_line, route_text, routes_from, routes_text};
+ghost use Rattle.surf_cli.specs.Routes.{route_line, route_text, routes_from, routes_text};
 
 use crate::table::put_field;
 use dor_routes::{class_after, route};
 use noc_model::Plan;
 use surf_base::{Block, Failed, Sink};
 
-/// Puts the rest of a line from the port on.
-fn put_way<O: Sink>(block: &mut Block, out: &mut O, port: u32, class: u32) -> Result<(), Failed>
-    ensures { Writes result (stream (O.written out.old) block.old (O.faults out.old))
-        (stream (O.written out.new) block.new (O.faults out.new)) (way_text port class) }
-{
-    match put_field(block, out, port) {
-        Ok(()) => block.put_number_then(out, u64::from(class), b'\n'),
-        Err(fault) => Err(fault),
-    }
-}
-
-/// Puts the rest of a line from the second tile on.
-fn put_target<O: Sink>(
+/// Puts a line.
+fn put_line<O: Sink>(
     block: &mut Block,
     out: &mut O,
+    tile: u32,
     dest: u32,
     port: u32,
     class: u32,
 ) -> Result<(), Failed>
     ensures { Writes result (stream (O.written out.old) block.old (O.faults out.old))
-        (stream (O.written out.new) block.new (O.faults out.new)) (field dest ++ way_text port class) }
+        (stream (O.written out.new) block.new (O.faults out.new)) (route_line tile dest port class) }
 {
-    match put_field(block, out, dest) {
-        Ok(()) => put_way(block, out, port, class),
-        Err(fault) => Err(fault),
-    }
+    put_field(block, out, tile)?;
+    put_field(block, out, dest)?;
+    put_field(block, out, port)?;
+    block.put_number_then(out, u64::from(class), b'\n')
 }
 
 /// Puts the line of the way from a tile to a tile.
@@ -55,10 +44,7 @@ fn put_route<O: Sink>(
     plan.known();
     let port = route(plan, tile, dest);
     let class = class_after(plan, tile, 0, 0, port);
-    match put_field(block, out, tile) {
-        Ok(()) => put_target(block, out, dest, port, class),
-        Err(fault) => Err(fault),
-    }
+    put_line(block, out, tile, dest, port, class)
 }
 
 /// Puts the lines of the ways from a tile.
@@ -73,10 +59,7 @@ fn put_routes_from<O: Sink>(
         (stream (O.written out.new) block.new (O.faults out.new)) (routes_from plan.now tile) }
 {
     for dest in 0..plan.tiles() {
-        match put_route(block, out, plan, tile, dest) {
-            Ok(()) => {}
-            Err(fault) => return Err(fault),
-        }
+        put_route(block, out, plan, tile, dest)?;
     }
     Ok(())
 }
@@ -87,10 +70,7 @@ pub(crate) fn put_routes<O: Sink>(block: &mut Block, out: &mut O, plan: &Plan) -
         (stream (O.written out.new) block.new (O.faults out.new)) (routes_text plan.now) }
 {
     for tile in 0..plan.tiles() {
-        match put_routes_from(block, out, plan, tile) {
-            Ok(()) => {}
-            Err(fault) => return Err(fault),
-        }
+        put_routes_from(block, out, plan, tile)?;
     }
     Ok(())
 }

@@ -3,9 +3,9 @@
 ghost use Rattle.std.specs.Prelude.{◌≡◌};
 ghost use Rattle.surf_cli.specs.Lines.{number_of, status_of, line_of, Says};
 
-use noc_desc::DescFault;
-use surf_base::{Sink, write_all};
-use trace_read::TraceFault;
+use crate::refusals::Refusal;
+use std::alloc::AllocError;
+use surf_base::{Sink, TakeFault, write_all};
 
 /// How a run of the program ends.
 #[derive(Clone, Copy, Debug, PartialEq, Eq)]
@@ -22,7 +22,7 @@ pub enum Status {
     Read,
     /// The output could not be written.
     Write,
-    /// Memory was wanting.
+    /// Memory ran out.
     Memory,
     /// A file is longer than its limit.
     TooLong,
@@ -46,30 +46,59 @@ impl Status {
     }
 }
 
-/// How a run ends, with the fault that its line tells.
+/// How a run ends, with all that its line says.
 #[derive(Drop)]
 pub(crate) enum End {
     /// All bytes were written.
     Good,
     /// The words are no command.
     Usage,
-    /// The description's first fault.
-    Description(DescFault),
-    /// The network of the description is not simulated yet.
-    NotBuilt,
-    /// The trace's first fault.
-    Trace(TraceFault),
+    /// What the files hold is refused.
+    Refused(Refusal),
     /// A file could not be read.
     Read,
     /// The output could not be written.
     Write,
-    /// Memory was wanting.
+    /// Memory ran out.
     Memory,
     /// A file is longer than its limit.
     TooLong,
 }
 
+impl From<AllocError> for End {
+    ghost use Rattle.surf_cli.specs.declared.statuses.End.{End};
+
+    ghost from_gives = { λ _ end. end ≡ End.Memory };
+
+    fn from(_fault: AllocError) -> End {
+        End::Memory
+    }
+}
+
+impl From<Refusal> for End {
+    ghost use Rattle.surf_cli.specs.declared.statuses.End.{End};
+
+    ghost from_gives = { λ refusal end. end ≡ End.Refused refusal };
+
+    fn from(refusal: Refusal) -> End {
+        End::Refused(refusal)
+    }
+}
+
 impl End {
+    ghost use Rattle.surf_cli.specs.Reading.{end_of};
+
+    /// How a run ends whose files are not read.
+    pub(crate) fn of(fault: TakeFault) -> End
+        ensures { result ≡ end_of fault }
+    {
+        match fault {
+            TakeFault::Failed => End::Read,
+            TakeFault::TooLong => End::TooLong,
+            TakeFault::Memory(_) => End::Memory,
+        }
+    }
+
     /// The status of the run.
     pub(crate) fn status(&self) -> Status
         ensures { result ≡ status_of self.now }
@@ -77,8 +106,7 @@ impl End {
         match self {
             End::Good => Status::Good,
             End::Usage => Status::Usage,
-            End::Description(_) | End::NotBuilt => Status::Description,
-            End::Trace(_) => Status::Trace,
+            End::Refused(refusal) => refusal.status(),
             End::Read => Status::Read,
             End::Write => Status::Write,
             End::Memory => Status::Memory,
@@ -87,52 +115,26 @@ impl End {
     }
 
     /// Writes the line for the error stream; nothing where all is good.
-    pub(crate) fn tell<E: Sink>(&self, err: &mut E)
+    pub(crate) fn print<E: Sink>(&self, err: &mut E)
         ensures { Says (line_of self.now) (E.written err.old) (E.written err.new) (E.faults err.old) (E.faults err.new) }
     {
         match self {
-            End::Good => {}
-            End::Usage => say(err, "surf: usage\n"),
-            End::Description(fault) => tell_fault(fault, err),
-            End::NotBuilt => say(err, "surf: description not built\n"),
-            End::Trace(fault) => tell_trace_fault(fault, err),
-            End::Read => say(err, "surf: read failed\n"),
-            End::Write => say(err, "surf: write failed\n"),
-            End::Memory => say(err, "surf: no memory\n"),
-            End::TooLong => say(err, "surf: file too long\n"),
+            End::Good => say(err, b""),
+            End::Usage => say(err, b"surf: usage\n"),
+            End::Refused(refusal) => refusal.print(err),
+            End::Read => say(err, b"surf: read failed\n"),
+            End::Write => say(err, b"surf: write failed\n"),
+            End::Memory => say(err, b"surf: no memory\n"),
+            End::TooLong => say(err, b"surf: file too long\n"),
         }
     }
 }
 
-/// Writes a line to the error stream.
-fn say<E: Sink>(err: &mut E, line: &str)
+/// Writes a line to the error stream. Where that fails, a prefix of it is there, and the status stays.
+pub(crate) fn say<E: Sink>(err: &mut E, line: &[u8])
     ensures { Says line.now (E.written err.old) (E.written err.new) (E.faults err.old) (E.faults err.new) }
 {
-    match write_all(err, line.as_bytes()) {
-        Ok(()) => {}
-        Err(_) => {}
-    }
-}
-
-/// Writes the line of a description's fault to the error stream.
-fn tell_fault<E: Sink>(fault: &DescFault, err: &mut E)
-    ensures { Says (line_of (End.Description fault.now)) (E.written err.old) (E.written err.new) (E.faults err.old) (E.faults err.new) }
-{
-    let mut line = [0; 96];
-    let len = desc_check::fault_line(fault, &mut line);
-    match write_all(err, &line[..len]) {
-        Ok(()) => {}
-        Err(_) => {}
-    }
-}
-
-/// Writes the line of a trace's fault to the error stream.
-fn tell_trace_fault<E: Sink>(fault: &TraceFault, err: &mut E)
-    ensures { Says (line_of (End.Trace fault.now)) (E.written err.old) (E.written err.new) (E.faults err.old) (E.faults err.new) }
-{
-    let mut line = [0; 96];
-    let len = trace_read::fault_line(fault, &mut line);
-    match write_all(err, &line[..len]) {
+    match write_all(err, line) {
         Ok(()) => {}
         Err(_) => {}
     }

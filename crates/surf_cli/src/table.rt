@@ -1,12 +1,12 @@
 //! The owner table: a line for each link in each cycle.
 
-ghost use Rattle.std.specs.Prelude.{◌≡◌, ◌<◌, ◌++◌, ◌∷◌, [], length, IsSome};
+ghost use Rattle.std.specs.Prelude.{◌<◌};
 ghost use Rattle.surf_base.specs.Block.{Writes, stream};
-ghost use Rattle.noc_model.specs.Plan.{tiles, ports, name_of};
-ghost use Rattle.noc_model.specs.Place.{neighbour, owner};
+ghost use Rattle.noc_model.specs.Plan.{tiles, ports};
 ghost use Rattle.wave_sched.specs.Wheels.{Stands};
 ghost use Rattle.surf_cli.specs.Turning.{AllStand};
-ghost use Rattle.surf_cli.specs.Schedule.{field, owner_line, link_text, port_text, tile_text, cycle_text, schedule_text};
+ghost use Rattle.surf_cli.specs.Texts.{field};
+ghost use Rattle.surf_cli.specs.Schedule.{link_line, port_text, tile_text, cycle_text, schedule_text};
 
 use crate::turning::tick_all;
 use noc_model::Plan;
@@ -21,45 +21,6 @@ pub(crate) fn put_field<O: Sink>(block: &mut Block, out: &mut O, value: u32) -> 
     block.put_number_then(out, u64::from(value), b' ')
 }
 
-/// Puts the owner's name, and ends the line.
-fn put_name<O: Sink>(block: &mut Block, out: &mut O, name: &[u8]) -> Result<(), Failed>
-    ensures { Writes result (stream (O.written out.old) block.old (O.faults out.old))
-        (stream (O.written out.new) block.new (O.faults out.new)) (name.now ++ 10 ∷ []) }
-{
-    match block.put(out, name) {
-        Ok(()) => block.put(out, b"\n"),
-        Err(fault) => Err(fault),
-    }
-}
-
-/// Puts the rest of a line from the port on.
-fn put_end<O: Sink>(block: &mut Block, out: &mut O, port: u32, name: &[u8]) -> Result<(), Failed>
-    ensures { Writes result (stream (O.written out.old) block.old (O.faults out.old))
-        (stream (O.written out.new) block.new (O.faults out.new)) (field port ++ (name.now ++ 10 ∷ [])) }
-{
-    match put_field(block, out, port) {
-        Ok(()) => put_name(block, out, name),
-        Err(fault) => Err(fault),
-    }
-}
-
-/// Puts the rest of a line from the tile on.
-fn put_link<O: Sink>(
-    block: &mut Block,
-    out: &mut O,
-    tile: u32,
-    port: u32,
-    name: &[u8],
-) -> Result<(), Failed>
-    ensures { Writes result (stream (O.written out.old) block.old (O.faults out.old))
-        (stream (O.written out.new) block.new (O.faults out.new)) (link_text tile port name.now) }
-{
-    match put_field(block, out, tile) {
-        Ok(()) => put_end(block, out, port, name),
-        Err(fault) => Err(fault),
-    }
-}
-
 /// Puts a line.
 fn put_line<O: Sink>(
     block: &mut Block,
@@ -70,12 +31,13 @@ fn put_line<O: Sink>(
     name: &[u8],
 ) -> Result<(), Failed>
     ensures { Writes result (stream (O.written out.old) block.old (O.faults out.old))
-        (stream (O.written out.new) block.new (O.faults out.new)) (field cycle ++ link_text tile port name.now) }
+        (stream (O.written out.new) block.new (O.faults out.new)) (link_line cycle tile port name.now) }
 {
-    match put_field(block, out, cycle) {
-        Ok(()) => put_link(block, out, tile, port, name),
-        Err(fault) => Err(fault),
-    }
+    put_field(block, out, cycle)?;
+    put_field(block, out, tile)?;
+    put_field(block, out, port)?;
+    block.put(out, name)?;
+    block.put(out, b"\n")
 }
 
 /// Puts the line of a port, if it has a link.
@@ -119,10 +81,7 @@ fn put_tile<O: Sink>(
 {
     plan.known();
     for port in 0..1 + 2 * plan.dims() {
-        match put_port(block, out, plan, wheel, cycle, tile, port) {
-            Ok(()) => {}
-            Err(fault) => return Err(fault),
-        }
+        put_port(block, out, plan, wheel, cycle, tile, port)?;
     }
     Ok(())
 }
@@ -140,10 +99,7 @@ fn put_cycle<O: Sink>(
         (stream (O.written out.new) block.new (O.faults out.new)) (cycle_text plan.now cycle) }
 {
     for tile in 0..plan.tiles() {
-        match put_tile(block, out, plan, &wheels[tile as usize], cycle, tile) {
-            Ok(()) => {}
-            Err(fault) => return Err(fault),
-        }
+        put_tile(block, out, plan, &wheels[tile as usize], cycle, tile)?;
     }
     Ok(())
 }
@@ -161,10 +117,8 @@ pub(crate) fn put_schedule<O: Sink>(
         (stream (O.written out.new) block.new (O.faults out.new)) (schedule_text plan.now cycles) }
 {
     for cycle in 0..cycles {
-        match put_cycle(block, out, plan, wheels, cycle) {
-            Ok(()) => tick_all(wheels),
-            Err(fault) => return Err(fault),
-        }
+        put_cycle(block, out, plan, wheels, cycle)?;
+        tick_all(wheels);
     }
     Ok(())
 }

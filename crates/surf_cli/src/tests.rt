@@ -21,6 +21,13 @@ domain = [{name = \"a\", channels = 1}]\n\
 tile = [{at = 0, domains = [\"a\"]}]\n\
 range = [{tile = 0, first = 0x10, last = 0x1f}]\n";
 
+const DECIMAL_VERSION: &str =
+    "version = 1.0\nshape = \"mesh\"\ndims = [2]\nstages = 2\nbuffer = 2\n\
+domain = [{name = \"a\", channels = 1}]\n";
+
+const NUMBER_AS_DOMAIN: &str =
+    "version = 1\nshape = \"mesh\"\ndims = [2]\nstages = 2\nbuffer = 2\ndomain = [1]\n";
+
 const CUBE: &str = "version = 2\nshape = \"mesh\"\ndims = [2, 2, 2]\nstages = 1\nbuffer = 2\n\
 domain = [{name = \"a\", channels = 1}]\nslots = [\"a\"]\n";
 
@@ -122,6 +129,27 @@ fn each_command_gives_its_status_and_bytes(rt: HostRuntime) -> Result<(), Fail> 
             Status::Description,
             "",
             "surf: description fault 2 0 0 0\n",
+        ),
+        (
+            "check d",
+            Some("version = 1\nversion = 1\n"),
+            Status::Description,
+            "",
+            "surf: description fault 1\n",
+        ),
+        (
+            "check d",
+            Some(DECIMAL_VERSION),
+            Status::Description,
+            "",
+            "surf: description fault 4 0 0 0\n",
+        ),
+        (
+            "check d",
+            Some(NUMBER_AS_DOMAIN),
+            Status::Description,
+            "",
+            "surf: description fault 4 0 0 5\n",
         ),
         ("check d", None, Status::Read, "", "surf: read failed\n"),
         (

@@ -1,55 +1,12 @@
 //! Worked drivers, views and events.
 
-ghost use Rattle.std.specs.Prelude.{◌≡◌, ◌<◌, IfOk};
-ghost use Rattle.noc_model.specs.PlanOf.{plan_of};
-ghost use Rattle.noc_model.specs.Sound.{IsSound};
+ghost use Rattle.std.specs.Prelude.{◌≡◌, ◌<◌};
 
 use crate::{Drive, Event, Events, Kind, Seen, TraceDrive};
 use flit_word::{Ejected, Offer};
-use noc_model::{DomainPart, Host, Parts, Plan, Range};
 use std::alloc::{AllocError, Global};
-use surf_base::Bytes;
 use trace_read::{Entry, Trace, Words};
-
-/// Two tiles in a row that both host the domains `a` and `b`, which own the slots in turn.
-fn two_tiles(alloc: Global) -> Result<Parts, AllocError>
-    ensures { IfOk result (λ a. IsSound (plan_of a)) }
-{
-    let a = DomainPart {
-        name: Bytes::from_slice(alloc, b"a")?,
-        channels: 1,
-    };
-    let b = DomainPart {
-        name: Bytes::from_slice(alloc, b"b")?,
-        channels: 1,
-    };
-    Ok(Parts {
-        torus: false,
-        dims: vec![in alloc; 2]?,
-        stages: 1,
-        buffer: 2,
-        domains: vec![in alloc; a, b]?,
-        hosts: vec![in alloc;
-            Host { tile: 0, domain: 0 },
-            Host { tile: 0, domain: 1 },
-            Host { tile: 1, domain: 0 },
-            Host { tile: 1, domain: 1 },
-        ]?,
-        ranges: vec![in alloc;
-            Range {
-                tile: 0,
-                first: 0x0,
-                last: 0xff
-            },
-            Range {
-                tile: 1,
-                first: 0x100,
-                last: 0x1ff
-            },
-        ]?,
-        slots: vec![in alloc; 0, 1]?,
-    })
-}
+use worked_plans::two_tiles;
 
 /// Two words of attachment 1 from cycle 3 on, and two deaf cycles of attachment 2.
 fn small_trace(alloc: Global) -> Result<Trace, AllocError> {
@@ -102,7 +59,7 @@ fn get<D: Drive>(drive: &mut D, attach: u32, cycle: u32) -> bool
 
 #[test]
 fn words_come_in_order_from_their_cycle_on(rt: HostRuntime) {
-    let plan = Plan::new(two_tiles(rt.alloc()).expect(&rt, "memory"));
+    let plan = two_tiles(rt.alloc()).expect(&rt, "memory");
     let trace = small_trace(rt.alloc()).expect(&rt, "memory");
     assert_eq!(&rt; plan.attach_count(), 4);
     let mut drive = TraceDrive::new(rt.alloc(), &plan, &trace).expect(&rt, "memory");
@@ -120,7 +77,7 @@ fn words_come_in_order_from_their_cycle_on(rt: HostRuntime) {
 
 #[test]
 fn a_hold_is_deaf_for_its_cycles(rt: HostRuntime) {
-    let plan = Plan::new(two_tiles(rt.alloc()).expect(&rt, "memory"));
+    let plan = two_tiles(rt.alloc()).expect(&rt, "memory");
     let trace = small_trace(rt.alloc()).expect(&rt, "memory");
     assert_eq!(&rt; plan.attach_count(), 4);
     let mut drive = TraceDrive::new(rt.alloc(), &plan, &trace).expect(&rt, "memory");
@@ -135,7 +92,7 @@ fn a_hold_is_deaf_for_its_cycles(rt: HostRuntime) {
 
 #[test]
 fn a_cycle_is_seen_as_it_was_set(rt: HostRuntime) {
-    let plan = Plan::new(two_tiles(rt.alloc()).expect(&rt, "memory"));
+    let plan = two_tiles(rt.alloc()).expect(&rt, "memory");
     assert_eq!(&rt; plan.attach_count(), 4);
     let mut seen = Seen::new(rt.alloc(), &plan).expect(&rt, "memory");
     let offer = Offer {

@@ -46,7 +46,7 @@ impl Driving for TraceDrive {
 
     ghost state = { λ s j. slice_index s.taken.items j ∷ [] };
 
-    ghost keeps_hearing = { λ s j t state h. h };
+    ghost keeps_hearing = { λ s j t state offered h. h };
 }
 
 impl Drive for TraceDrive {

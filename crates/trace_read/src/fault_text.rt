@@ -1,11 +1,10 @@
 //! The line that tells a fault.
 
-ghost use Rattle.std.specs.Prelude.{◌≡◌, ◌≤◌, ◌+◌, ◌++◌, length, take, IfSome};
-ghost use Rattle.surf_base.specs.Numbers.{labelled};
+ghost use Rattle.std.specs.Prelude.{◌≡◌, ◌≤◌, length, take, IfSome};
 ghost use Rattle.trace_read.specs.Line.{place_of, told, line_of};
 
 use crate::fault::TraceFault;
-use surf_base::{put_at, put_number_at};
+use surf_base::{put_at, put_labelled_at};
 
 /// The number of a fault and its line; want of memory has neither.
 fn place_of(fault: &TraceFault) -> Option<(u64, u64)>
@@ -22,18 +21,6 @@ fn place_of(fault: &TraceFault) -> Option<(u64, u64)>
     }
 }
 
-/// Writes a label of at most 20 bytes and a number at place `at`.
-fn put_labelled(buf: &mut [u8], at: usize, label: &[u8], value: u64) -> usize
-    requires room { at + 40 ≤ length buf.old }
-    requires short { length label.now ≤ 20 }
-    ensures written { take result buf.new ≡ take at buf.old ++ labelled label.now value }
-    ensures few { result ≤ at + 40 }
-    ensures len { length buf.new ≡ length buf.old }
-{
-    let next = put_at(buf, at, label);
-    put_number_at(buf, next, value)
-}
-
 /// Writes the line of a fault with this number and line.
 fn put_told(buf: &mut [u8], place: Option<(u64, u64)>) -> usize
     requires { 96 ≤ length buf.old }
@@ -43,8 +30,8 @@ fn put_told(buf: &mut [u8], place: Option<(u64, u64)>) -> usize
     match place {
         None => put_at(buf, 0, b"surf: no memory\n".as_slice()),
         Some((number, line)) => {
-            let next = put_labelled(buf, 0, b"surf: trace fault ".as_slice(), number);
-            let at = put_labelled(buf, next, b" line ".as_slice(), line);
+            let next = put_labelled_at(buf, 0, b"surf: trace fault ".as_slice(), number);
+            let at = put_labelled_at(buf, next, b" line ".as_slice(), line);
             put_at(buf, at, b"\n".as_slice())
         }
     }

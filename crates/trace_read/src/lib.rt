@@ -2,7 +2,7 @@
 //!
 //! A trace is a text of lines. Each line that isn't skipped is a `send`, whose words are offered in order, or a `hold`, for
 //! which the attachment is deaf. [`read_trace`] promises exactly the entries of the lines, in order, or the first faulty line
-//! with the least fault that holds on it. [`Trace::of_domain`] keeps the entries of one domain. What drives a network by a
+//! with the least fault that holds on it. [`Restrict::of_domain`] keeps the entries of one domain. What drives a network by a
 //! trace is left to the part above.
 #![tactic(auto)]
 
@@ -18,6 +18,7 @@ pub use entries::{Entry, Trace, Words};
 pub use fault::TraceFault;
 pub use fault_text::fault_line;
 pub use reading::read_trace;
+pub use restrict::Restrict;
 
 #[cfg(test)]
 mod tests;

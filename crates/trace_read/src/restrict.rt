@@ -55,9 +55,18 @@ fn is_of(plan: &Plan, d: u32, entry: &Entry) -> bool
     j < plan.attach_count() && plan.attach(j).domain == d
 }
 
-impl Trace {
+/// The restriction of a trace to a domain.
+pub trait Restrict {
     /// The entries of the attachments of domain `d`, in order.
-    pub fn of_domain(&self, alloc: Global, plan: &Plan, d: u32) -> Result<Trace, AllocError>
+    ///
+    /// # Errors
+    ///
+    /// Memory ran out.
+    fn of_domain(&self, alloc: Global, plan: &Plan, d: u32) -> Result<Trace, AllocError>;
+}
+
+impl Restrict for Trace {
+    fn of_domain(&self, alloc: Global, plan: &Plan, d: u32) -> Result<Trace, AllocError>
         ensures { IfOk result (λ trace. trace ≡ of_domain plan.now d self.now) }
     {
         let mut kept = Trace::new(alloc);

@@ -3,4 +3,3 @@ pub mod Gives
 pub mod Picks
 pub mod Lists
 pub mod Parts
-pub mod Faults

@@ -11,7 +11,8 @@ use crate::error::ReadError;
 use crate::piece::{Token, piece_at};
 use crate::scan::{before, behind, len_before, same};
 use std::alloc::Global;
-use vl_tree::{Const, Name, Op, Seq};
+use surf_base::Seq;
+use vl_tree::{Const, Name, Op};
 
 /// The next token, and the bytes behind it.
 #[derive(Clone, Copy)]

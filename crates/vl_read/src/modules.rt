@@ -10,8 +10,9 @@ use crate::ahead::{Ahead, at_mark, at_name, goes_on, left_of, name, phrase, way}
 use crate::error::ReadError;
 use crate::items::{item, range, wire};
 use std::alloc::Global;
+use surf_base::Seq;
 use vl_tree::{
-    Design, Join, Joins, Leaf, LeafItems, Leaves, Name, Port, Ports, Seq, Top, TopItem, TopItems,
+    Design, Join, Joins, Leaf, LeafItems, Leaves, Name, Port, Ports, Top, TopItem, TopItems,
 };
 
 #[tactic(auto, unfolding(vl_tree::specs::Reading::both, vl_tree::specs::Reading::made, vl_tree::specs::Reading::port_at))]

@@ -17,9 +17,10 @@ mod tests {
     use sqlite_items::{Boxed, Items};
     use std::alloc::{AllocError, Global};
     use std::test::Fail;
+    use surf_base::Seq;
     use vl_tree::{
         Const, Design, Expr, Join, Joins, Leaf, LeafItem, LeafItems, Leaves, Name, Op, Port, Ports,
-        Seq, Top, TopItem, TopItems,
+        Top, TopItem, TopItems,
     };
 
     fn name(alloc: Global, text: &[u8]) -> Result<Name, AllocError> {

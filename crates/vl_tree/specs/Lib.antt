@@ -3,6 +3,7 @@ pub mod Read
 pub mod Tokens
 pub mod Grammar
 pub mod Spells
+pub mod Faults
 pub mod Reading
 pub mod Layout
 pub mod Plain

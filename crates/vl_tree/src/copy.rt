@@ -2,18 +2,18 @@
 ghost use Rattle.std.specs.Prelude.{◌≡◌, IfOk};
 ghost use Rattle.vl_tree.specs.Read.{read, reads, read_item, read_items, read_leaf, read_leaves, read_design};
 
-use crate::seq::Seq;
 use crate::tree::{
     Design, Expr, Join, Joins, Leaf, LeafItem, LeafItems, Leaves, Name, Port, Ports, Top, TopItem,
     TopItems,
 };
 use sqlite_items::{Boxed, Items};
 use std::alloc::{AllocError, Global};
+use surf_base::Seq;
 
 fn name(alloc: Global, n: &Name) -> Result<Name, AllocError>
     ensures { IfOk result (λ m. m ≡ n.now) }
 {
-    Seq::from_slice(alloc, n.as_slice())
+    n.copy(alloc)
 }
 
 #[cycle(copied)]

@@ -11,12 +11,10 @@ mod copy;
 mod fault;
 pub mod laws;
 mod plain;
-mod seq;
 pub mod token;
 mod tree;
 
 pub use fault::TextFault;
-pub use seq::Seq;
 pub use tree::{
     Const, Design, Expr, Join, Joins, Leaf, LeafItem, LeafItems, Leaves, Name, Op, Port, Ports,
     Top, TopItem, TopItems,
@@ -28,6 +26,7 @@ mod tests {
     use sqlite_items::{Boxed, Items};
     use std::alloc::{AllocError, Global};
     use std::test::Fail;
+    use surf_base::Seq;
 
     fn name(alloc: Global, text: &[u8]) -> Result<Name, AllocError> {
         Seq::from_slice(alloc, text)

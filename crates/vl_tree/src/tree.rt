@@ -1,6 +1,6 @@
 //! Designs, leaves, items and expressions.
-use crate::seq::Seq;
 use sqlite_items::{Boxed, Items};
+use surf_base::Seq;
 
 /// A name, by its bytes.
 pub type Name = Seq<u8>;

@@ -1,11 +1,11 @@
 -- The slot before and after a shift, by natural numbers alone.
-use Rattle.std.proofs.Common.{◌≡◌, ◌≢◌, ℕ, ◌+◌, ◌-◌, ◌*◌, ◌/◌, ◌%◌, ◌<◌, ◌≤◌, ◌⊎◌, length, inl, inr, refl, sym, ◌∙◌, ap, arith}
-use Rattle.std.specs.Prelude.{ℤ, pos, negsuc, ◌+ℤ◌, ◌-ℤ◌}
+use Rattle.std.proofs.Common.{◌≡◌, ℕ, ◌+◌, ◌-◌, ◌*◌, ◌/◌, ◌%◌, ◌<◌, ◌≤◌, ◌⊎◌, length, inl, inr, sym, ◌∙◌, ap, arith}
+use Rattle.std.specs.Prelude.{pos, negsuc, ◌+ℤ◌, ◌-ℤ◌}
 use Rattle.std.proofs.Math.Nat.{mod-eq_of_lt, add-mul-mod_self_left, mod-add-div, mod-lt}
 use Rattle.std.proofs.lemmas.Int.{ints}
 use Rattle.noc_model.specs.Plan.{Plan, hop}
-use Rattle.noc_model.specs.Place.{modulo, slot_of, way_of, wave}
-use Rattle.noc_model.proofs.Ports.{way-by}
+use Rattle.noc_model.specs.declared.ways.Way.TheVariants.{Plus, Minus}
+use Rattle.noc_model.specs.Place.{modulo, slot_of, wave}
 
 -- two numbers that differ by multiples of k have the same remainder
 pub same-mod : (k x y i j : ℕ) → x + k * i ≡ y + k * j → x % k ≡ y % k
@@ -44,23 +44,18 @@ modulo-earlier k t w some = go order
         let within : k - 1 - (w - t - 1) % k < k = omega arith in
         ap (λ z. modulo z k) down ∙ (sym (mod-eq_of_lt within) ∙ same-mod k (k - 1 - (w - t - 1) % k) (t % k + (k - w % k)) (w / k) (t / k + (w - t - 1) / k) (omega arith))
 
--- an odd port is a plus port
-slot-odd : (p : Plan) (n port : ℕ) (t : ℤ) → port ≢ 0 → port % 2 ≡ 1 → slot_of p n t (way_of port) ≡ modulo (t -ℤ pos (hop p * wave p n)) (length p.slots)
-slot-odd p n port t link odd = rw (way-by port link, odd) refl
+-- ---- the slots of a cycle
 
-slot-even : (p : Plan) (n port : ℕ) (t : ℤ) → port ≢ 0 → port % 2 ≢ 1 → slot_of p n t (way_of port) ≡ modulo (t +ℤ pos (hop p * wave p n)) (length p.slots)
-slot-even p n port t link even = let zero : port % 2 ≡ 0 = omega (arith, even) in rw (way-by port link, zero) refl
-
-pub owned-odd : (p : Plan) (n port t turn h w slot : ℕ) → port ≢ 0 → port % 2 ≡ 1 → turn ≡ length p.slots → 0 < length p.slots → h ≡ hop p → w ≡ wave p n
-    → slot ≡ (t % turn + (turn - h * w % turn)) % turn → slot ≡ slot_of p n (pos t) (way_of port)
-owned-odd p n port t turn h w slot link odd turns some hops waves is =
+pub owned-plus : (p : Plan) (n t i turn h w slot : ℕ) → turn ≡ length p.slots → 0 < length p.slots → h ≡ hop p → w ≡ wave p n
+    → slot ≡ (t % turn + (turn - h * w % turn)) % turn → slot ≡ slot_of p n (pos t) (Plus i)
+owned-plus p n t i turn h w slot turns some hops waves is =
     let shift : h * w ≡ hop p * wave p n = cc in
-    let at : slot ≡ (t % length p.slots + (length p.slots - hop p * wave p n % length p.slots)) % length p.slots = is ∙ ap (λ k. (t % k + (k - h * w % k)) % k) turns ∙ ap (λ s. (t % length p.slots + (length p.slots - s % length p.slots)) % length p.slots) shift in
-    at ∙ sym (modulo-earlier (length p.slots) t (hop p * wave p n) some) ∙ sym (slot-odd p n port (pos t) link odd)
+    is ∙ ap (λ k. (t % k + (k - h * w % k)) % k) turns ∙ ap (λ s. (t % length p.slots + (length p.slots - s % length p.slots)) % length p.slots) shift
+    ∙ sym (modulo-earlier (length p.slots) t (hop p * wave p n) some)
 
-pub owned-even : (p : Plan) (n port t turn h w slot : ℕ) → port ≢ 0 → port % 2 ≢ 1 → turn ≡ length p.slots → 0 < length p.slots → h ≡ hop p → w ≡ wave p n
-    → slot ≡ (t % turn + h * w % turn) % turn → slot ≡ slot_of p n (pos t) (way_of port)
-owned-even p n port t turn h w slot link even turns some hops waves is =
+pub owned-minus : (p : Plan) (n t i turn h w slot : ℕ) → turn ≡ length p.slots → 0 < length p.slots → h ≡ hop p → w ≡ wave p n
+    → slot ≡ (t % turn + h * w % turn) % turn → slot ≡ slot_of p n (pos t) (Minus i)
+owned-minus p n t i turn h w slot turns some hops waves is =
     let shift : h * w ≡ hop p * wave p n = cc in
-    let at : slot ≡ (t % length p.slots + hop p * wave p n % length p.slots) % length p.slots = is ∙ ap (λ k. (t % k + h * w % k) % k) turns ∙ ap (λ s. (t % length p.slots + s % length p.slots) % length p.slots) shift in
-    at ∙ sym (modulo-later (length p.slots) t (hop p * wave p n) some) ∙ sym (slot-even p n port (pos t) link even)
+    is ∙ ap (λ k. (t % k + h * w % k) % k) turns ∙ ap (λ s. (t % length p.slots + s % length p.slots) % length p.slots) shift
+    ∙ sym (modulo-later (length p.slots) t (hop p * wave p n) some)

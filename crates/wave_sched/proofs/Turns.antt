@@ -1,12 +1,14 @@
 -- The slots of cycle 0, and how they turn.
-use Rattle.std.proofs.Common.{◌≡◌, ◌≢◌, ℕ, zero, suc, ◌+◌, ◌-◌, ◌*◌, ◌/◌, ◌%◌, ◌<◌, length, refl, sym, ◌∙◌, ap, arith, Bool, true, false, if◌then◌else◌, ◌==◌}
+use Rattle.std.proofs.Common.{◌≡◌, ◌≢◌, ℕ, zero, suc, ◌+◌, ◌-◌, ◌*◌, ◌/◌, ◌%◌, ◌<◌, length, refl, sym, ◌∙◌, ap, arith}
 use Rattle.std.specs.Prelude.{ℤ, pos, negsuc, ◌+ℤ◌, ◌-ℤ◌, slice_index}
 use Rattle.std.proofs.Math.Nat.{mod-eq_of_lt, mod-add-div, mod-lt}
 use Rattle.std.proofs.lemmas.Int.{ints}
 use Rattle.noc_model.specs.Plan.{Plan, hop}
-use Rattle.noc_model.specs.Place.{modulo, next_in, slot_of, Way, Local, Plus, Minus, way_of, opposite, wave, owner}
+use Rattle.noc_model.specs.declared.ways.Way.{Way}
+use Rattle.noc_model.specs.declared.ways.Way.TheVariants.{Local, Plus, Minus}
+use Rattle.noc_model.specs.Place.{modulo, next_in, slot_of, way_of, opposite, wave, owner}
 use Rattle.noc_model.proofs.Modulo.{modulo-next}
-use Rattle.noc_model.proofs.Ports.{way-linked, opposite-by, opposite-linked}
+use Rattle.noc_model.proofs.Ports.{way-linked, opposite-linked}
 use Rattle.wave_sched.proofs.Slots.{same-mod, modulo-earlier}
 
 pub modulo-below : (k : ℕ) (z : ℤ) → 0 < k → modulo z k < k
@@ -48,19 +50,11 @@ slot-below p n z Local some = some
 slot-below p n z (Plus i) some = modulo-below (length p.slots) (z -ℤ pos (hop p * wave p n)) some
 slot-below p n z (Minus i) some = modulo-below (length p.slots) (z +ℤ pos (hop p * wave p n)) some
 
--- a slot is one for all dimensions
-slot-flat : (p : Plan) (n i : ℕ) (z : ℤ) (b : Bool) → slot_of p n z (if b then Plus 0 else Minus 0) ≡ slot_of p n z (if b then Plus i else Minus i)
-slot-flat p n i z true = refl
-slot-flat p n i z false = refl
-
-pub slot-arriving : (p : Plan) (n port : ℕ) (z : ℤ) → port ≢ 0 → slot_of p n z (if port % 2 == 0 then Plus 0 else Minus 0) ≡ slot_of p n z (way_of (opposite port))
-slot-arriving p n port z link = slot-flat p n ((port - 1) / 2) z (port % 2 == 0) ∙ ap (slot_of p n z) (sym (opposite-by port link))
-
 -- ---- the slots before cycle 0, by natural numbers
 
-pub before-plus : (p : Plan) (n ago turn h w r : ℕ) → turn ≡ length p.slots → 0 < length p.slots → h ≡ hop p → w ≡ wave p n
-    → r ≡ (0 % turn + (turn - (ago + h * w) % turn)) % turn → r ≡ slot_of p n (pos 0 -ℤ pos ago) (Plus 0)
-before-plus p n ago turn h w r turns some hops waves is =
+pub before-plus : (p : Plan) (n ago i turn h w r : ℕ) → turn ≡ length p.slots → 0 < length p.slots → h ≡ hop p → w ≡ wave p n
+    → r ≡ (0 % turn + (turn - (ago + h * w) % turn)) % turn → r ≡ slot_of p n (pos 0 -ℤ pos ago) (Plus i)
+before-plus p n ago i turn h w r turns some hops waves is =
     let x : h * w ≡ hop p * wave p n = cc in
     let e : (pos 0 -ℤ pos ago) -ℤ pos (hop p * wave p n) ≡ pos 0 -ℤ pos (ago + hop p * wave p n) = omega (arith, ints) in
     is ∙ ap (λ k. (0 % k + (k - (ago + h * w) % k)) % k) turns
@@ -73,9 +67,9 @@ two-mods k x y =
     let b : y % k + k * (y / k) ≡ y = mod-add-div y k in
     same-mod k (x % k + y % k) (x + y) (x / k + y / k) 0 (omega arith)
 
-pub before-minus : (p : Plan) (n ago turn h w c r : ℕ) → turn ≡ length p.slots → 0 < length p.slots → h ≡ hop p → w ≡ wave p n
-    → c ≡ (0 % turn + (turn - ago % turn)) % turn → r ≡ (c % turn + h * w % turn) % turn → r ≡ slot_of p n (pos 0 -ℤ pos ago) (Minus 0)
-before-minus p n ago turn h w c r turns some hops waves was is =
+pub before-minus : (p : Plan) (n ago i turn h w c r : ℕ) → turn ≡ length p.slots → 0 < length p.slots → h ≡ hop p → w ≡ wave p n
+    → c ≡ (0 % turn + (turn - ago % turn)) % turn → r ≡ (c % turn + h * w % turn) % turn → r ≡ slot_of p n (pos 0 -ℤ pos ago) (Minus i)
+before-minus p n ago i turn h w c r turns some hops waves was is =
     let x : h * w ≡ hop p * wave p n = cc in
     let y : c ≡ modulo (pos 0 -ℤ pos ago) (length p.slots) = was ∙ ap (λ k. (0 % k + (k - ago % k)) % k) turns ∙ sym (modulo-earlier (length p.slots) 0 ago some) in
     is ∙ two-mods turn c (h * w) ∙ ap (λ k. (c + h * w) % k) turns ∙ ap (λ v. (c + v) % length p.slots) x ∙ ap (λ v. (v + hop p * wave p n) % length p.slots) y

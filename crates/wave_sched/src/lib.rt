@@ -7,12 +7,12 @@
 
 ghost use Rattle.std.specs.Prelude.{◌≡◌, ◌<◌, ◌≤◌, ◌+◌, ◌-◌, ◌*◌, ◌%◌, ◌^◌, length, pos, IsSome};
 ghost use Rattle.noc_model.specs.Plan.{tiles, hop};
-ghost use Rattle.noc_model.specs.Place.{owner, neighbour, wave};
+ghost use Rattle.noc_model.specs.Place.{owner, slot_of, neighbour, wave};
 
 mod starts;
 mod wheels;
 
-use noc_model::Plan;
+use noc_model::{Plan, Way};
 pub use wheels::Wheel;
 
 /// The domain that owns the link that leaves `tile` by `port` in a cycle (Wassel et al., SurfNoC, ISCA 2013).
@@ -23,15 +23,23 @@ pub fn owner(plan: &Plan, tile: u32, port: u32, cycle: u32) -> u32
     ensures value { result ≡ owner plan.now tile port (pos cycle) }
     ensures domain { result < length plan.now.domains }
 {
+    plan.slot(slot_at(plan, tile, Way::of_port(port), cycle))
+}
+
+/// The slot that the link which leaves a tile this way has in a cycle.
+fn slot_at(plan: &Plan, tile: u32, way: Way, cycle: u32) -> u32
+    requires { tile < tiles plan.now }
+    ensures value { result ≡ slot_of plan.now tile (pos cycle) way }
+    ensures below { result < length plan.now.slots }
+{
     plan.known();
     let turn = plan.slots();
     let shift = plan.hop() * wave(plan, tile) % turn;
-    let slot = if port % 2 == 1 {
-        earlier_slot(cycle, shift, turn)
-    } else {
-        later_slot(cycle, shift, turn)
-    };
-    plan.slot(slot)
+    match way {
+        Way::Local => 0,
+        Way::Plus(_) => earlier_slot(cycle, shift, turn),
+        Way::Minus(_) => later_slot(cycle, shift, turn),
+    }
 }
 
 /// The slot `shift` cycles before a cycle.

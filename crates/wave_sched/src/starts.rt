@@ -3,11 +3,11 @@
 ghost use Rattle.std.specs.Prelude.{◌≡◌, ◌<◌, ◌≤◌, ◌+◌, ◌*◌, ◌%◌, length, pos, ◌-ℤ◌, if◌then◌else◌, map, IfOk};
 ghost use Rattle.std.specs.List.{range_with_len};
 ghost use Rattle.noc_model.specs.Plan.{tiles, ports, hop};
-ghost use Rattle.noc_model.specs.Place.{neighbour, slot_of, way_of, wave, Plus, Minus};
+ghost use Rattle.noc_model.specs.Place.{neighbour, slot_of, wave};
 ghost use Rattle.wave_sched.specs.Starts.{arriving_from, port_slots};
 
 use crate::{earlier_slot, later_slot, wave};
-use noc_model::Plan;
+use noc_model::{Plan, Way};
 use std::alloc::{AllocError, Global};
 
 /// The slots of a port's two links: in cycle 0 of the link that leaves by it, and of the link that arrives there as many
@@ -18,31 +18,19 @@ pub(crate) struct PortSlots {
     pub arriving: u32,
 }
 
-/// The slot, `ago` cycles before cycle 0, of the links that leave a tile by plus or by minus.
-fn slot_before(plan: &Plan, tile: u32, plus: bool, ago: u32) -> u32
+/// The slot, `ago` cycles before cycle 0, of the link that leaves a tile this way.
+fn slot_before(plan: &Plan, tile: u32, way: Way, ago: u32) -> u32
     requires tile { tile < tiles plan.now }
     requires few { ago ≤ 4 }
-    ensures { result ≡ slot_of plan.now tile (pos 0 -ℤ pos ago) (if plus then Plus 0 else Minus 0) }
+    ensures { result ≡ slot_of plan.now tile (pos 0 -ℤ pos ago) way }
 {
     plan.known();
     let turn = plan.slots();
     let shift = plan.hop() * wave(plan, tile);
-    if plus {
-        earlier_slot(0, (ago + shift) % turn, turn)
-    } else {
-        later_slot(earlier_slot(0, ago % turn, turn), shift % turn, turn)
-    }
-}
-
-/// The slot in cycle 0 of the link that leaves a tile by the port.
-fn leaving_slot(plan: &Plan, tile: u32, port: u32) -> u32
-    requires { tile < tiles plan.now }
-    ensures { result ≡ slot_of plan.now tile (pos 0) (way_of port) }
-{
-    if port == 0 {
-        0
-    } else {
-        slot_before(plan, tile, port % 2 == 1, 0)
+    match way {
+        Way::Local => 0,
+        Way::Plus(_) => earlier_slot(0, (ago + shift) % turn, turn),
+        Way::Minus(_) => later_slot(earlier_slot(0, ago % turn, turn), shift % turn, turn),
     }
 }
 
@@ -54,7 +42,7 @@ fn arriving_slot(plan: &Plan, tile: u32, port: u32) -> u32
 {
     plan.known();
     match plan.neighbour(tile, port) {
-        Some(from) => slot_before(plan, from, port % 2 == 0, plan.stages()),
+        Some(from) => slot_before(plan, from, Way::of_port(port).opposite(), plan.stages()),
         None => 0,
     }
 }
@@ -67,7 +55,7 @@ pub(crate) fn starts_of(alloc: Global, plan: &Plan, tile: u32) -> Result<Vec<Por
     plan.known();
     let mut starts = Vec::new(alloc);
     for port in 0..1 + 2 * plan.dims() {
-        let leaving = leaving_slot(plan, tile, port);
+        let leaving = slot_before(plan, tile, Way::of_port(port), 0);
         let arriving = arriving_slot(plan, tile, port);
         starts.push(PortSlots { leaving, arriving })?;
     }

@@ -1,15 +1,23 @@
-use Rattle.std.proofs.Common.{◌∙◌, arith}
-use Rattle.dor_routes.proofs.Ways.{wrap-at, wrap-mesh, wrap-local}
+use Rattle.std.proofs.Common.{◌≡◌, true, refl, sym, arith}
+use Rattle.noc_model.specs.Place.{is_wrap, side, coord}
+use Rattle.dor_routes.proofs.Ways.{wrap-mesh}
 use Rattle.dor_routes.proofs.is_wrap.Goals as goal
-use Rattle.dor_routes.proofs.is_wrap.Goals.{then-port-eq0-via-then-port-eq0, then-port-eq0-via-else-port-eq0+then-not-torus}
 
-pub returns-then-port-eq0-clause-value : goal.returns-then-port-eq0-clause-value
-returns-then-port-eq0-clause-value c =
-    elim c.then-port-eq0.branch [
-      | then-port-eq0-via-then-port-eq0 w ↦ wrap-local c.args.plan.now c.args.at c.args.port w.if-port-eq0.true
-      | then-port-eq0-via-else-port-eq0+then-not-torus w ↦ wrap-mesh c.args.plan.now c.args.at c.args.port (grind arith)
-    ]
+pub returns-then-not-torus-clause-value : goal.returns-then-not-torus-clause-value
+returns-then-not-torus-clause-value c = wrap-mesh c.args.plan.now c.args.at c.args.port (grind arith)
 
-pub returns-clause-value : goal.returns-clause-value
-returns-clause-value c =
-    c.is_over_edge.ensures ∙ wrap-at c.args.plan.now c.args.at c.args.port c.side.result c.coord.result c.if-port-eq0.false c.side.ensures.value c.coord.ensures.value (grind arith)
+pub returns-in-Local-clause-value : goal.returns-in-Local-clause-value
+unfolding is_wrap
+returns-in-Local-clause-value c = rw (sym c.in-Local.ensures) refl
+
+pub returns-in-Plus-clause-value : goal.returns-in-Plus-clause-value
+unfolding is_wrap side coord
+returns-in-Plus-clause-value c =
+    let torus : c.args.plan.now.torus ≡ true = grind arith in
+    rw (sym c.in-Plus.ensures, torus, ← c.side.ensures.value, ← c.coord.ensures.value) c.is_over_edge.ensures
+
+pub returns-in-Minus-clause-value : goal.returns-in-Minus-clause-value
+unfolding is_wrap side coord
+returns-in-Minus-clause-value c =
+    let torus : c.args.plan.now.torus ≡ true = grind arith in
+    rw (sym c.in-Minus.ensures, torus, ← c.side-in-Minus.ensures.value, ← c.coord-in-Minus.ensures.value) c.is_over_edge-in-Minus.ensures

@@ -14,7 +14,7 @@ returns-then-x-y-clause-value c =
     let way = way-differs p.torus 0 c.loop-i.i p.dims (coords_in p.dims c.args.at) (coords_in p.dims c.args.dest) there (length-coords p.dims c.args.at) (length-coords p.dims c.args.dest) c.loop-i.invariant
     (λ e. c.if-x-y.true (c.coord-x.ensures.value ∙ e ∙ sym c.coord-y.ensures.value)) in
     let zero_more : 0 + c.loop-i.i ≡ c.loop-i.i = omega arith in
-    rw (c.port_in.ensures, way, zero_more, c.goes_plus.ensures, c.torus.ensures, k_is, c.coord-x.ensures.value, c.coord-y.ensures.value) refl
+    rw (c.port.ensures, c.way_in.ensures, way, zero_more, c.goes_plus.ensures, c.torus.ensures, k_is, c.coord-x.ensures.value, c.coord-y.ensures.value) refl
 
 pub loop-i-preserved : goal.loop-i-preserved
 unfolding coord
@@ -26,4 +26,4 @@ returns-clause-value c =
     let p = c.args.plan.now in
     let way = way-same p.torus 0 p.dims (coords_in p.dims c.args.at) (coords_in p.dims c.args.dest) (length-coords p.dims c.args.at) (length-coords p.dims c.args.dest)
     (λ j h. c.loop-i.invariant j (omega arith)) in
-    rw way refl
+    rw (c.port-2.ensures, way) refl

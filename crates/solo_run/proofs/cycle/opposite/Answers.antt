@@ -1,11 +1,15 @@
-use Rattle.solo_run.proofs.Links.{opposite-local, opposite-odd, opposite-even}
+use Rattle.std.proofs.Common.{◌≡◌, ◌∙◌, ap, arith}
+use Rattle.noc_model.specs.Place.{port_of, opposite_way, opposite}
+use Rattle.noc_model.proofs.Ports.{opposite-near}
 use Rattle.solo_run.proofs.cycle.opposite.Goals as goal
 
-pub returns-then-port-eq0 : goal.returns-then-port-eq0
-returns-then-port-eq0 c = opposite-local c.args.port c.if-port-eq0.true
+pub port-requires : goal.port-requires
+unfolding opposite
+port-requires c =
+    let near = opposite-near c.args.port in
+    let is : port_of c.opposite.result ≡ opposite c.args.port = ap port_of (c.opposite.ensures ∙ ap opposite_way c.of_port.ensures) in
+    omega arith
 
-pub returns-then-port-eq1 : goal.returns-then-port-eq1
-returns-then-port-eq1 c = opposite-odd c.args.port c.if-port-eq0.false c.if-port-eq1.true
-
-pub returns-else-port-eq1 : goal.returns-else-port-eq1
-returns-else-port-eq1 c = opposite-even c.args.port c.if-port-eq0.false c.if-port-eq1.false
+pub returns : goal.returns
+unfolding opposite
+returns c = c.port.ensures ∙ ap port_of (c.opposite.ensures ∙ ap opposite_way c.of_port.ensures)

@@ -1,10 +1,8 @@
-use Rattle.std.proofs.Common.{◌≡◌, ◌++◌, ℕ, ap, ◌∙◌, subst}
+use Rattle.std.proofs.Common.{◌≡◌, ℕ, ap, ◌∙◌, subst}
 use Rattle.noc_model.specs.Plan.{Plan}
 use Rattle.noc_model.specs.Place.{route, class_after}
-use Rattle.surf_base.specs.Block.{BreaksOff, Writes}
-use Rattle.surf_base.proofs.Blocks.{Writes-then, BreaksOff-more}
-use Rattle.surf_cli.specs.Schedule.{field}
-use Rattle.surf_cli.specs.Routes.{way_text, route_line, route_text}
+use Rattle.surf_base.specs.Block.{Writes}
+use Rattle.surf_cli.specs.Routes.{route_line, route_text}
 use Rattle.surf_cli.proofs.routes.put_route.Goals as goal
 
 -- the line of the port and the class is the text of the way
@@ -13,14 +11,7 @@ unfolding route_text
 line-is p n dest port class at_port at_class =
     ap (route_line n dest port) at_class ∙ ap (λ x. route_line n dest x (class_after p n 0 0 x)) at_port
 
-pub returns-in-Ok : goal.returns-in-Ok
-returns-in-Ok g c =
-    let e = line-is c.args.plan.now c.args.tile c.args.dest c.route-port.result c.class_after-class.result c.route-port.ensures.value c.class_after-class.ensures.value in
-    subst (Writes c.put_target.result _ _) e
-    (Writes-then c.put_target.result _ _ _ (field c.args.tile) (field c.args.dest ++ way_text c.route-port.result c.class_after-class.result) c.in-Ok.ensures c.put_target.ensures)
-
-pub returns-in-Err : goal.returns-in-Err
-returns-in-Err g c =
-    let e = line-is c.args.plan.now c.args.tile c.args.dest c.route-port.result c.class_after-class.result c.route-port.ensures.value c.class_after-class.ensures.value in
-    subst (BreaksOff _ _) e
-    (BreaksOff-more _ _ (field c.args.tile) (field c.args.dest ++ way_text c.route-port.result c.class_after-class.result) c.in-Err.ensures)
+pub returns : goal.returns
+returns g c =
+    subst (Writes c.put_line.result _ _)
+    (line-is c.args.plan.now c.args.tile c.args.dest c.route-port.result c.class_after-class.result c.route-port.ensures.value c.class_after-class.ensures.value) c.put_line.ensures

@@ -1,5 +1,5 @@
 use Rattle.surf_base.specs.Block.{Puts, stream}
-use Rattle.surf_cli.specs.Schedule.{texts_below}
+use Rattle.surf_cli.specs.Texts.{texts_below}
 use Rattle.surf_cli.specs.Routes.{route_text}
 use Rattle.surf_cli.proofs.routes.put_routes_from.Given as goal
 

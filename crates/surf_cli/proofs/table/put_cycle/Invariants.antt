@@ -1,5 +1,6 @@
 use Rattle.surf_base.specs.Block.{Puts, stream}
-use Rattle.surf_cli.specs.Schedule.{texts_below, tile_text}
+use Rattle.surf_cli.specs.Texts.{texts_below}
+use Rattle.surf_cli.specs.Schedule.{tile_text}
 use Rattle.surf_cli.proofs.table.put_cycle.Given as goal
 
 abbrev pub invariant-loop-tile : goal.invariant-loop-tile

@@ -1,5 +1,6 @@
 use Rattle.surf_base.specs.Block.{Puts, stream}
-use Rattle.surf_cli.specs.Schedule.{texts_below, cycle_text}
+use Rattle.surf_cli.specs.Texts.{texts_below}
+use Rattle.surf_cli.specs.Schedule.{cycle_text}
 use Rattle.surf_cli.specs.Turning.{AllStand}
 use Rattle.surf_cli.proofs.table.put_schedule.Given as goal
 

@@ -1,5 +1,6 @@
 use Rattle.surf_base.specs.Block.{Puts, stream}
-use Rattle.surf_cli.specs.Schedule.{texts_below, port_text}
+use Rattle.surf_cli.specs.Texts.{texts_below}
+use Rattle.surf_cli.specs.Schedule.{port_text}
 use Rattle.surf_cli.proofs.table.put_tile.Given as goal
 
 abbrev pub invariant-loop-port : goal.invariant-loop-port

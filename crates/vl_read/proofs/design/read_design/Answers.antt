@@ -109,4 +109,4 @@ returns-in-Err-At-clause-grammar c =
     let clean : length bs ≤ prefix_len is_text_byte bs = omega (arith, c.if-clean-len.false, c.text_len-clean.ensures.value) in
     let whole : unread bs ≡ 0 = omega (arith, c.if-left-gt0.false, c.unread-left.ensures.value) in
     let e : design_at (tokens_of bs) ≡ Err c.in-Err-At.left = rw c.in-Err-At.field-0-is at c.in-Err-At.ensures in
-    λ n f. one_place bs (length bs - c.in-Err-At.left) n (grammar_here bs c.in-Err-At.left clean whole e).at f.at
+    λ n f. ap faults.Grammar (one_place bs (length bs - c.in-Err-At.left) n (grammar_here bs c.in-Err-At.left clean whole e).at f.at)

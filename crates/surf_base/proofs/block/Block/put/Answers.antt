@@ -1,9 +1,14 @@
-use Rattle.std.proofs.Common.{[]}
-use Rattle.surf_base.proofs.Blocks.{Writes-then, BreaksOff-more}
+use Rattle.std.proofs.Common.{rules, ◌≡◌, [], refl, sym}
+use Rattle.surf_base.proofs.Blocks.{Writes-written}
 use Rattle.surf_base.proofs.block.Block.put.Goals as goal
+use Rattle.surf_base.proofs.block.Block.put.Goals.{in-Some, in-None}
 
-pub returns-in-Ok : goal.returns-in-Ok
-returns-in-Ok g c = Writes-then c.write_past.result _ _ _ [] c.args.piece.now c.in-Ok.ensures.writes c.write_past.ensures
-
-pub returns-in-Err : goal.returns-in-Err
-returns-in-Err g c = BreaksOff-more _ _ [] c.args.piece.now c.in-Err.ensures.writes
+pub returns : goal.returns
+returns g c =
+    elim c.match-self.branch [
+      | in-Some w ↦ search rules
+      | in-None w ↦
+          (let empty : c.args.self.now ≡ [] = rw w.in-None.is at (sym c.self.view_is) in
+          rw (w.result-is, w.sink-is, w.self-inside-is, w.in-None.is, empty)
+          (Writes-written w.write_all.result _ _ [] c.args.piece.now _ _ refl w.write_all.ensures.ok w.write_all.ensures.prefix w.write_all.ensures.rose w.write_all.ensures.faults))
+    ]

@@ -1,0 +1,4 @@
+pub mod Ports
+pub mod Shape
+pub mod Replayed
+pub mod Right

@@ -1,6 +1,0 @@
-use Rattle.std.proofs.Common.{length}
-use Rattle.surf_cli.proofs.reading.+read_files.Given as goal
-
--- proposed from what the function passes where it calls itself
-abbrev pub decreases-read_files : goal.decreases-read_files
-decreases-read_files g l = length l.list.now

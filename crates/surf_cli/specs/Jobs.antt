@@ -1,0 +1,23 @@
+-- What a command asks for: its files, and what is done with what they hold.
+use Rattle.std.specs.Prelude.{ℕ, ◌≤◌, List}
+use Rattle.surf_cli.specs.Limits.{run_cycles}
+use Rattle.surf_cli.specs.Files.{NamedFile}
+
+-- what is done with what the files hold
+pub data Job : Type 0 where
+  Schedule : (cycles : ℕ) → Job
+  Check : Job
+  Routes : Job
+  Simulate : (cycles : ℕ) → Job
+
+pub record Command : Type 0 where
+  pub files : List NamedFile
+  pub job : Job
+
+abbrev pub command : List NamedFile → Job → Command
+command files job = record { files = files; job = job }
+
+-- a run has at most so many cycles
+abbrev pub HasFewCycles : Job → Type 0
+HasFewCycles (Simulate cycles) = cycles ≤ run_cycles
+HasFewCycles _ = Unit {0}

@@ -1,0 +1,18 @@
+-- The limits of the command line and of the files.
+use Rattle.std.specs.Prelude.{ℕ}
+
+-- the most cycles of an owner table
+abbrev pub table_cycles : ℕ
+table_cycles = 4096
+
+-- the most cycles of a run
+abbrev pub run_cycles : ℕ
+run_cycles = 65536
+
+-- the most bytes of a description
+abbrev pub description_limit : ℕ
+description_limit = 1048576
+
+-- the most bytes of a trace
+abbrev pub trace_limit : ℕ
+trace_limit = 67108864

@@ -1,0 +1,42 @@
+//! `check DESC`: the line of an accepted description.
+
+ghost use Rattle.std.specs.Prelude.{◌≡◌, map, string_bytes, option_map, IfSome, IfOk, IfErr};
+ghost use Rattle.surf_cli.specs.Jobs.{Check, HasFewCycles};
+ghost use Rattle.surf_cli.specs.Commands.{check_words};
+ghost use Rattle.surf_cli.specs.Meaning.{over};
+ghost use Rattle.surf_cli.specs.Answers.{text_of, Makes, IsRefused};
+ghost use Rattle.surf_cli.specs.Spoken.{command, job, gathered};
+
+use super::{Command, Job};
+use crate::answers::Text;
+use crate::contents::Contents;
+use crate::files::{FileKind, NamedFile, NamedFiles};
+use crate::judging::judge;
+use crate::statuses::End;
+use std::alloc::Global;
+
+/// The command, by the words after its own.
+pub(super) fn words(args: &[String]) -> Option<Command<'_>>
+    ensures value { option_map command result ≡ check_words (map string_bytes args.now) }
+    ensures few { IfSome result (λ c. HasFewCycles (job c.job)) }
+{
+    match args {
+        [description] => {
+            let description = NamedFile::new(FileKind::Description, description.as_str());
+            Some(Command {
+                files: NamedFiles::One(description),
+                job: Job::Check,
+            })
+        }
+        _ => None,
+    }
+}
+
+/// What is written: the line of the plan.
+pub(super) fn make(alloc: Global, contents: Contents) -> Result<Text, End>
+    ensures ok { IfOk result (λ text. Makes (over Check (gathered contents)) (text_of text)) }
+    ensures err { IfErr result (λ end. IsRefused (over Check (gathered contents)) end) }
+{
+    let plan = judge(alloc, contents.description.as_slice())?;
+    Ok(Text::Accepted(plan))
+}

@@ -1,0 +1,86 @@
+//! What the files hold, judged: the description, whether its network is built, and the trace.
+
+ghost use Rattle.std.specs.Prelude.{◌≡◌, ◌==◌, List, IfOk, IfErr, OnOk};
+ghost use Rattle.std.specs.List.{list_all};
+ghost use Rattle.noc_model.specs.declared.plan.DomainPart.{DomainPart};
+ghost use Rattle.noc_model.specs.Plan.{Plan as PlanValue};
+ghost use Rattle.trace_read.specs.declared.entries.Entry.{Entry};
+ghost use Rattle.cycle_sim.specs.Net.{IsBuilt};
+ghost use Rattle.surf_cli.specs.Simulate.{is_built};
+ghost use Rattle.surf_cli.specs.Meaning.{Outcome, with_plan, with_built, with_trace};
+ghost use Rattle.surf_cli.specs.Answers.{IsRefused, EndsFor};
+
+use crate::refusals::Refusal;
+use crate::statuses::End;
+use noc_desc::{DescFault, read_draft};
+use noc_model::Plan;
+use std::alloc::Global;
+use trace_read::{Trace, TraceFault, read_trace};
+
+/// How a run ends that meets a fault of a description.
+fn end_of(fault: DescFault) -> End
+    ensures { EndsFor fault result }
+{
+    match fault {
+        DescFault::Memory(_) => End::Memory,
+        other => End::Refused(Refusal::Description(other)),
+    }
+}
+
+/// The plan of a description.
+pub(crate) fn judge(alloc: Global, bytes: &[u8]) -> Result<Plan, End>
+    ensures ok { IfOk result (λ plan. (next : PlanValue → Outcome) → with_plan bytes.now next ≡ next plan) }
+    ensures err { IfErr result (λ end. (next : PlanValue → Outcome) → IsRefused (with_plan bytes.now next) end) }
+{
+    let draft = match read_draft(alloc, bytes) {
+        Ok(draft) => draft,
+        Err(fault) => return Err(end_of(fault)),
+    };
+    match desc_check::check(alloc, draft) {
+        Ok(plan) => Ok(plan),
+        Err(fault) => Err(end_of(fault)),
+    }
+}
+
+/// The entries of a trace.
+pub(crate) fn judge_trace(alloc: Global, plan: &Plan, bytes: &[u8]) -> Result<Trace, End>
+    ensures ok { IfOk result (λ es. (next : List Entry → Outcome) → with_trace plan.now bytes.now next ≡ next es) }
+    ensures err { IfErr result (λ end. (next : List Entry → Outcome) → IsRefused (with_trace plan.now bytes.now next) end) }
+{
+    match read_trace(alloc, plan, bytes) {
+        Ok(trace) => Ok(trace),
+        Err(TraceFault::Memory(_)) => Err(End::Memory),
+        Err(fault) => Err(End::Refused(Refusal::Trace(fault))),
+    }
+}
+
+/// Whether each domain has one channel.
+fn has_single_channels(plan: &Plan) -> bool
+    ensures { result ≡ list_all (λ (x : DomainPart). x.channels == 1) plan.now.domains }
+{
+    let mut single = true;
+    for d in 0..plan.domains() {
+        single &= plan.channels(d) == 1;
+    }
+    single
+}
+
+/// Whether the plan's network is simulated so far.
+fn is_built(plan: &Plan) -> bool
+    ensures { result ≡ is_built plan.now }
+{
+    !plan.torus() && plan.dims() == 1 && plan.tiles() == 1 && has_single_channels(plan)
+}
+
+/// Refuses a plan whose network is not simulated yet.
+pub(crate) fn needs_built(plan: &Plan) -> Result<(), End>
+    ensures built { OnOk result (IsBuilt plan.now) }
+    ensures ok { OnOk result ((next : Outcome) → with_built plan.now next ≡ next) }
+    ensures err { IfErr result (λ end. (next : Outcome) → IsRefused (with_built plan.now next) end) }
+{
+    if is_built(plan) {
+        Ok(())
+    } else {
+        Err(End::Refused(Refusal::NotBuilt))
+    }
+}

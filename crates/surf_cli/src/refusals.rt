@@ -1,0 +1,61 @@
+//! Why the contents of the files are refused.
+
+ghost use Rattle.std.specs.Prelude.{◌≡◌};
+ghost use Rattle.surf_cli.specs.Lines.{status_of_refusal, line_of_refusal, Says};
+
+use crate::statuses::{Status, say};
+use noc_desc::DescFault;
+use surf_base::Sink;
+use trace_read::TraceFault;
+
+/// Why the contents of the files are refused.
+#[derive(Drop)]
+pub(crate) enum Refusal {
+    /// The description's first fault.
+    Description(DescFault),
+    /// The network of the description is not simulated yet.
+    NotBuilt,
+    /// The trace's first fault.
+    Trace(TraceFault),
+}
+
+impl Refusal {
+    /// The status of the run.
+    pub(crate) fn status(&self) -> Status
+        ensures { result ≡ status_of_refusal self.now }
+    {
+        match self {
+            Refusal::Description(_) | Refusal::NotBuilt => Status::Description,
+            Refusal::Trace(_) => Status::Trace,
+        }
+    }
+
+    /// Writes the line for the error stream.
+    pub(crate) fn print<E: Sink>(&self, err: &mut E)
+        ensures { Says (line_of_refusal self.now) (E.written err.old) (E.written err.new) (E.faults err.old) (E.faults err.new) }
+    {
+        match self {
+            Refusal::Description(fault) => print_fault(fault, err),
+            Refusal::NotBuilt => say(err, b"surf: description not built\n"),
+            Refusal::Trace(fault) => print_trace_fault(fault, err),
+        }
+    }
+}
+
+/// Writes the line of a description's fault to the error stream.
+fn print_fault<E: Sink>(fault: &DescFault, err: &mut E)
+    ensures { Says (line_of_refusal (Refusal.Description fault.now)) (E.written err.old) (E.written err.new) (E.faults err.old) (E.faults err.new) }
+{
+    let mut line = [0; 96];
+    let len = desc_check::fault_line(fault, &mut line);
+    say(err, &line[..len]);
+}
+
+/// Writes the line of a trace's fault to the error stream.
+fn print_trace_fault<E: Sink>(fault: &TraceFault, err: &mut E)
+    ensures { Says (line_of_refusal (Refusal.Trace fault.now)) (E.written err.old) (E.written err.new) (E.faults err.old) (E.faults err.new) }
+{
+    let mut line = [0; 96];
+    let len = trace_read::fault_line(fault, &mut line);
+    say(err, &line[..len]);
+}

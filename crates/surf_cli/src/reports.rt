@@ -1,0 +1,60 @@
+//! The reports of a run.
+
+ghost use Rattle.std.specs.Prelude.{◌≡◌, ◌≤◌, IfOk};
+ghost use Rattle.surf_base.specs.Block.{Writes, stream};
+ghost use Rattle.cycle_sim.specs.Net.{IsBuilt};
+ghost use Rattle.surf_cli.specs.Simulate.{AreAlone, reports_of, events_of, reports_text};
+
+use cycle_sim::{Net, run};
+use domain_report::put_report;
+use noc_model::Plan;
+use std::alloc::{AllocError, Global};
+use surf_base::{Block, Failed, Sink};
+use tile_drive::{Events, TraceDrive};
+use trace_read::Trace;
+
+/// The reports of all domains that are not written yet.
+#[derive(Drop)]
+pub(crate) struct Reports {
+    plan: Plan,
+    events: Events,
+}
+
+/// The events of all domains in a run that the trace drives.
+fn simulate(alloc: Global, plan: &Plan, trace: &Trace, cycles: u32) -> Result<Events, AllocError>
+    requires built { IsBuilt plan.now }
+    requires few { cycles ≤ 65536 }
+    ensures { IfOk result (λ events. AreAlone plan.now events trace.now cycles) }
+{
+    let mut drive = TraceDrive::new(alloc, plan, trace)?;
+    let mut net = Net::new(alloc, plan.copy(alloc)?)?;
+    run(alloc, &mut net, &mut drive, cycles)
+}
+
+impl Reports {
+    /// The reports of a run that the trace drives.
+    pub(crate) fn simulated(
+        alloc: Global,
+        plan: Plan,
+        trace: &Trace,
+        cycles: u32,
+    ) -> Result<Reports, AllocError>
+        requires built { IsBuilt plan }
+        requires few { cycles ≤ 65536 }
+        ensures { IfOk result (λ reports. reports_of reports.plan (events_of reports.events) ≡ reports_text plan trace.now cycles) }
+    {
+        let events = simulate(alloc, &plan, trace, cycles)?;
+        Ok(Reports { plan, events })
+    }
+
+    /// Puts the reports.
+    pub(crate) fn put<O: Sink>(&self, block: &mut Block, out: &mut O) -> Result<(), Failed>
+        ensures { Writes result (stream (O.written out.old) block.old (O.faults out.old))
+            (stream (O.written out.new) block.new (O.faults out.new)) (reports_of self.now.plan (events_of self.now.events)) }
+    {
+        for d in 0..self.plan.domains() {
+            put_report(block, out, &self.plan, &self.events, d)?;
+        }
+        Ok(())
+    }
+}

@@ -1,8 +1,0 @@
--- These parts are those of the example.
-use Rattle.noc_model.proofs.SoundExamples.{two_tiles-sound}
-use Rattle.tile_drive.proofs.tests.two_tiles.Goals as goal
-
-pub returns : goal.returns
-returns c =
-    rw (c.in_ok-vec.ensures.items, c.in_ok-vec-2.ensures.items, c.in_ok-vec-3.ensures.items, c.in_ok-vec-4.ensures.items, c.in_ok-vec-5.ensures.items, c.in_ok-from_slice.ensures, c.in_ok-from_slice-2.ensures)
-    two_tiles-sound

@@ -1,0 +1,11 @@
+pub mod Found
+pub mod Headed
+pub mod Noted
+pub mod Anys
+pub mod Bits
+pub mod Sized
+pub mod Shelved
+pub mod Tallied
+pub mod Judged
+pub mod Sited
+pub mod Ruled

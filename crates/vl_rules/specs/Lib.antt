@@ -1,0 +1,11 @@
+pub mod Names
+pub mod Lines
+pub mod Scope
+pub mod Walks
+pub mod Widths
+pub mod Library
+pub mod Tallies
+pub mod Site
+pub mod Check
+pub mod Judge
+pub mod Answer

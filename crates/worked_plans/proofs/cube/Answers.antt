@@ -1,0 +1,5 @@
+use Rattle.worked_plans.proofs.WorkedSound.{cube-sound}
+use Rattle.worked_plans.proofs.cube.Goals as goal
+
+pub plan_in-requires : goal.plan_in-requires
+plan_in-requires c = rw (c.host.ensures, c.host-2.ensures, c.range.ensures) cube-sound

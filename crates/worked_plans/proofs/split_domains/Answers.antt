@@ -1,0 +1,5 @@
+use Rattle.worked_plans.proofs.WorkedSound.{split_domains-sound}
+use Rattle.worked_plans.proofs.split_domains.Goals as goal
+
+pub plan_in-requires : goal.plan_in-requires
+plan_in-requires c = rw (c.host.ensures, c.host-2.ensures, c.range.ensures) split_domains-sound
