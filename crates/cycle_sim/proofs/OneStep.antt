@@ -15,9 +15,9 @@ use Rattle.noc_model.specs.Tile.{Tile, TileIn}
 use Rattle.std.proofs.Math.Nat.{mod-add-div, div-eq_of_lt, mod-eq_of_lt}
 use Rattle.std.proofs.Common.{mul-zero}
 use Rattle.noc_model.specs.Step.{waits_for, grant_at, asks_for, granted_to, is_channel, with_channel, is_open, word_in, is_ready_packet, next_stage, routed, activated, is_place, is_tail_on, entry, next_packet, is_dropped, next_current, next_ejected, flit_on, tile_step, winner, is_candidate, taken_channel, free_for, takes, is_ready, is_ready_at, asked, chosen, grant, leaves, sent, one_if, after, after_grant, front, is_tail}
-use Rattle.cycle_sim.specs.declared.tile.Way.{Way}
-use Rattle.cycle_sim.specs.declared.tile.Way.TheVariants.{Waiting, Sent, Open}
-use Rattle.cycle_sim.specs.OneTile.{One, Stands, stage_of, is_open_way, has_front, leaves_one, next_way, next_one, taken_word, is_sent}
+use Rattle.cycle_sim.specs.declared.tile.Claim.{Claim}
+use Rattle.cycle_sim.specs.declared.tile.Claim.TheVariants.{Waiting, Sent, Open}
+use Rattle.cycle_sim.specs.OneTile.{One, Stands, stage_of, is_open_claim, has_front, leaves_one, next_claim, next_one, taken_word, is_sent}
 
 -- each side is 1
 abbrev pub AllOne : List ℕ → Type 0
@@ -205,8 +205,8 @@ taken-local p d n s single far = go (s.held 0 0) (waits_for (s.stage 0 0) 0) ref
 -- ---- the switch
 
 -- a local channel that is ready
-ready-cases : (p : Plan) (d n : ℕ) (t : ℤ) (s : Tile) (i : TileIn) (way : Way) (q : List Flit) (e : Option Flit) → s.ejected ≡ e
-    → is_ready_at p d n t s i q (stage_of way) ≡ (is_open_way way && (has_front q && (is_none e || i.hears)))
+ready-cases : (p : Plan) (d n : ℕ) (t : ℤ) (s : Tile) (i : TileIn) (claim : Claim) (q : List Flit) (e : Option Flit) → s.ejected ≡ e
+    → is_ready_at p d n t s i q (stage_of claim) ≡ (is_open_claim claim && (has_front q && (is_none e || i.hears)))
 unfolding takes
 ready-cases p d n t s i Waiting q e is = refl
 ready-cases p d n t s i Sent q e is = refl
@@ -216,7 +216,7 @@ ready-cases p d n t s i Open (f ∷ fs) e is = ap (λ o. is_none o || i.hears) i
 ready-local : (p : Plan) (d n : ℕ) (t : ℤ) (s : Tile) (i : TileIn) (x : One) → Stands x s → is_ready p d n t s i 0 0 ≡ leaves_one i.hears x
 ready-local p d n t s i x h =
     ap (λ q. is_ready_at p d n t s i q (s.stage 0 0)) h.queue ∙ ap (is_ready_at p d n t s i x.queue) h.stage
-    ∙ ready-cases p d n t s i x.way x.queue x.ejected h.ejected
+    ∙ ready-cases p d n t s i x.claim x.queue x.ejected h.ejected
 
 asked-far : (p : Plan) (d n : ℕ) (t : ℤ) (s : Tile) (i : TileIn) (port : ℕ) → IsUnlinked s → asked p d n t s i (suc port) ≡ None
 unfolding asked
@@ -228,7 +228,7 @@ asked-far p d n t s i port far =
 abbrev the_grant : Grant
 the_grant = record { channel = 0; out = 0; to = 0 }
 
-grant-cases : (way : Way) (b : Bool) → option_and_then (λ (c : ℕ). grant_at c (stage_of way)) (number_if (is_open_way way && b) 0) ≡ (if is_open_way way && b then Some the_grant else None)
+grant-cases : (claim : Claim) (b : Bool) → option_and_then (λ (c : ℕ). grant_at c (stage_of claim)) (number_if (is_open_claim claim && b) 0) ≡ (if is_open_claim claim && b then Some the_grant else None)
 grant-cases Waiting b = refl
 grant-cases Sent b = refl
 grant-cases Open true = refl
@@ -246,8 +246,8 @@ asked-local p d n t s i x single h =
     ap (λ k. pick k (is_ready p d n t s i 0) (s.turn 0)) single.channel ∙ pick-first 0 (is_ready p d n t s i 0) (s.turn 0) (λ k less. absurd (omega arith))
     ∙ ap (λ b. number_if b 0) (ready-local p d n t s i x h) in
     ap (option_and_then (λ c. grant_at c (s.stage 0 c))) picked
-    ∙ at-first (s.stage 0) (stage_of x.way) (leaves_one i.hears x) h.stage
-    ∙ grant-cases x.way (has_front x.queue && (is_none x.ejected || i.hears))
+    ∙ at-first (s.stage 0) (stage_of x.claim) (leaves_one i.hears x) h.stage
+    ∙ grant-cases x.claim (has_front x.queue && (is_none x.ejected || i.hears))
 
 asks-first : (b : Bool) → asks_for (if b then Some the_grant else None) 0 ≡ b
 asks-first true = refl
@@ -310,8 +310,8 @@ word-local p s i x h =
     ∙ ap (λ q. if is_ready_packet s.packet (length q) p.buffer then i.offer else None) h.queue
     ∙ ap (λ k. if is_ready_packet k (length x.queue) p.buffer then i.offer else None) h.packet
 
-stage-cases : (p : Plan) (d n : ℕ) (t : ℤ) (s : Tile) (i : TileIn) (x : One) (way : Way) → IsSingle p d → Stands x s → x.way ≡ way
-    → next_stage p d n t s i 0 0 (stage_of way) ≡ stage_of (next_way (leaves_one i.hears x) x.queue way)
+stage-cases : (p : Plan) (d n : ℕ) (t : ℤ) (s : Tile) (i : TileIn) (x : One) (claim : Claim) → IsSingle p d → Stands x s → x.claim ≡ claim
+    → next_stage p d n t s i 0 0 (stage_of claim) ≡ stage_of (next_claim (leaves_one i.hears x) x.queue claim)
 stage-cases p d n t s i x Waiting single h e = ap (λ q. routed p n q Idle) h.queue ∙ go x.queue
   where
     go : (q : List Flit) → routed p n q Idle ≡ stage_of (if has_front q then Sent else Waiting)
@@ -320,7 +320,7 @@ stage-cases p d n t s i x Waiting single h e = ap (λ q. routed p n q Idle) h.qu
 stage-cases p d n t s i x Sent single h e =
     let far = unlinked x s h in
     let stage : s.stage 0 0 ≡ Routed 0 = h.stage ∙ ap stage_of e in
-    let held : s.held 0 0 ≡ false = h.held ∙ ap is_open_way e in
+    let held : s.held 0 0 ≡ false = h.held ∙ ap is_open_claim e in
     let waits : (waits_for (s.stage 0 0) 0 && not (s.held 0 0)) ≡ true = ap (λ z. waits_for z 0 && not (s.held 0 0)) stage ∙ ap not held in
     let won : winner p d n s 0 ≡ Some 0 = winner-local p d n s single far ∙ ap (λ b. number_if b 0) waits in
     let taken : taken_channel p d n s 0 ≡ Some 0 = taken-local p d n s single far ∙ ap (λ b. if b then Some 0 else None) waits in
@@ -349,22 +349,22 @@ tail-on false q = refl
 tail-on true [] = refl
 tail-on true (f ∷ fs) = and-true f.tail
 
-held-cases : (way : Way) (c : Bool) (q : List Flit)
-    → ((is_open_way way && not (is_tail_on (if is_open_way way && c then with_channel 0 (front q) else None) 0)) || is_place (if waits_for (stage_of way) 0 && not (is_open_way way) then Some 0 else None) 0)
-    ≡ is_open_way (next_way (is_open_way way && c) q way)
+held-cases : (claim : Claim) (c : Bool) (q : List Flit)
+    → ((is_open_claim claim && not (is_tail_on (if is_open_claim claim && c then with_channel 0 (front q) else None) 0)) || is_place (if waits_for (stage_of claim) 0 && not (is_open_claim claim) then Some 0 else None) 0)
+    ≡ is_open_claim (next_claim (is_open_claim claim && c) q claim)
 held-cases Waiting c q = go (has_front q)
   where
-    go : (b : Bool) → false ≡ is_open_way (if b then Sent else Waiting)
+    go : (b : Bool) → false ≡ is_open_claim (if b then Sent else Waiting)
     go true = refl
     go false = refl
 held-cases Sent c q = refl
 held-cases Open c q = or-false (not (is_tail_on (if c then with_channel 0 (front q) else None) 0)) ∙ ap not (tail-on c q) ∙ go (c && is_tail (front q))
   where
-    go : (b : Bool) → not b ≡ is_open_way (if b then Waiting else Open)
+    go : (b : Bool) → not b ≡ is_open_claim (if b then Waiting else Open)
     go true = refl
     go false = refl
 
-won-cases : (way : Way) (won : Bool) → after (number_if (waits_for (stage_of way) 0 && not (is_open_way way)) 0) (one_if won) ≡ one_if (won || is_sent way)
+won-cases : (claim : Claim) (won : Bool) → after (number_if (waits_for (stage_of claim) 0 && not (is_open_claim claim)) 0) (one_if won) ≡ one_if (won || is_sent claim)
 won-cases Waiting won = ap one_if (sym (or-false won))
 won-cases Sent true = refl
 won-cases Sent false = refl
@@ -396,8 +396,8 @@ unfolding tile_step next_one
 stands-step p d n t s i x single alone h =
     let far = unlinked x s h in
     let word = word-local p s i x h in
-    let asks : (waits_for (s.stage 0 0) 0 && not (s.held 0 0)) ≡ (waits_for (stage_of x.way) 0 && not (is_open_way x.way)) =
-    ap (λ z. waits_for z 0 && not (s.held 0 0)) h.stage ∙ ap (λ b. waits_for (stage_of x.way) 0 && not b) h.held in
+    let asks : (waits_for (s.stage 0 0) 0 && not (s.held 0 0)) ≡ (waits_for (stage_of x.claim) 0 && not (is_open_claim x.claim)) =
+    ap (λ z. waits_for z 0 && not (s.held 0 0)) h.stage ∙ ap (λ b. waits_for (stage_of x.claim) 0 && not b) h.held in
     record {
       queue =
           ap (λ b. drop (one_if b) (s.queue 0 0) ++ (if s.current == 0 then option_to_list (entry p d s.packet (word_in p s i)) else [])) (leaves-local p d n t s i x single h)
@@ -405,15 +405,15 @@ stands-step p d n t s i x single alone h =
           ∙ ap (λ c. drop (one_if (leaves_one i.hears x)) x.queue ++ (if c == 0 then option_to_list (entry p d s.packet (word_in p s i)) else [])) h.current
           ∙ ap (λ k. drop (one_if (leaves_one i.hears x)) x.queue ++ option_to_list (entry p d k (word_in p s i))) h.packet
           ∙ ap (λ w. drop (one_if (leaves_one i.hears x)) x.queue ++ option_to_list (entry p d x.packet w)) word;
-      stage = ap (next_stage p d n t s i 0 0) h.stage ∙ stage-cases p d n t s i x x.way single h refl;
+      stage = ap (next_stage p d n t s i 0 0) h.stage ∙ stage-cases p d n t s i x x.claim single h refl;
       held =
           ap (λ b. (b && not (is_tail_on (sent p d n t s i 0) 0)) || is_place (taken_channel p d n s 0) 0) h.held
-          ∙ ap (λ o. (is_open_way x.way && not (is_tail_on o 0)) || is_place (taken_channel p d n s 0) 0) (sent-local p d n t s i x single h)
-          ∙ ap (λ o. (is_open_way x.way && not (is_tail_on (if leaves_one i.hears x then with_channel 0 (front x.queue) else None) 0)) || is_place o 0)
+          ∙ ap (λ o. (is_open_claim x.claim && not (is_tail_on o 0)) || is_place (taken_channel p d n s 0) 0) (sent-local p d n t s i x single h)
+          ∙ ap (λ o. (is_open_claim x.claim && not (is_tail_on (if leaves_one i.hears x then with_channel 0 (front x.queue) else None) 0)) || is_place o 0)
           (taken-local p d n s single far ∙ ap (λ b. if b then Some 0 else None) asks)
-          ∙ held-cases x.way (has_front x.queue && (is_none x.ejected || i.hears)) x.queue;
+          ∙ held-cases x.claim (has_front x.queue && (is_none x.ejected || i.hears)) x.queue;
       allocation = ap (λ w. after w (s.allocation 0)) (winner-local p d n s single far ∙ ap (λ b. number_if b 0) asks)
-          ∙ ap (after (number_if (waits_for (stage_of x.way) 0 && not (is_open_way x.way)) 0)) h.allocation ∙ won-cases x.way x.won;
+          ∙ ap (after (number_if (waits_for (stage_of x.claim) 0 && not (is_open_claim x.claim)) 0)) h.allocation ∙ won-cases x.claim x.won;
       switch = ap (λ w. after w (s.switch 0)) (chosen-local p d n t s i x single h) ∙ ap (after (number_if (leaves_one i.hears x) 0)) h.switch ∙ switch-cases (leaves_one i.hears x) x.granted;
       turn = ap (λ g. after_grant g (s.turn 0)) (grant-local p d n t s i x single h) ∙ ap (after_grant (if leaves_one i.hears x then Some the_grant else None)) h.turn
           ∙ turn-cases (leaves_one i.hears x) x.granted;

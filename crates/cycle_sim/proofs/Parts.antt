@@ -9,8 +9,8 @@ use Rattle.noc_model.specs.Step.{entry}
 use Rattle.noc_model.specs.declared.Packet.{Packet}
 use Rattle.cycle_sim.specs.OneTile.{One, taken_word}
 
-pub same_one : {x y : One} → x.queue ≡ y.queue → x.way ≡ y.way → x.won ≡ y.won → x.granted ≡ y.granted → x.packet ≡ y.packet → x.dropped ≡ y.dropped → x.ejected ≡ y.ejected → x ≡ y
-same_one a b c d e f g = λ i. record { queue = a i; way = b i; won = c i; granted = d i; packet = e i; dropped = f i; ejected = g i }
+pub same_one : {x y : One} → x.queue ≡ y.queue → x.claim ≡ y.claim → x.won ≡ y.won → x.granted ≡ y.granted → x.packet ≡ y.packet → x.dropped ≡ y.dropped → x.ejected ≡ y.ejected → x ≡ y
+same_one a b c d e f g = λ i. record { queue = a i; claim = b i; won = c i; granted = d i; packet = e i; dropped = f i; ejected = g i }
 
 -- a flit enters only where there is room
 pub entry-room : (p : Plan) (d buffer : ℕ) (x : One) (offer : Option Offer) → IsSome (entry p d x.packet (taken_word buffer x offer)) → length x.queue < buffer

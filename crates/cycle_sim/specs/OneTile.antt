@@ -12,14 +12,14 @@ use Rattle.noc_model.specs.Events.{ejected_of}
 use Rattle.tile_drive.specs.declared.cycle_seen.SeenAt.{SeenAt}
 use Rattle.noc_model.specs.Tile.{Tile}
 use Rattle.noc_model.specs.Step.{is_ready_packet, next_packet, entry, is_dropped, front, is_tail, one_if, next_ejected, with_channel}
-use Rattle.cycle_sim.specs.declared.tile.Way.{Way}
-use Rattle.cycle_sim.specs.declared.tile.Way.TheVariants.{Waiting, Sent, Open}
+use Rattle.cycle_sim.specs.declared.tile.Claim.{Claim}
+use Rattle.cycle_sim.specs.declared.tile.Claim.TheVariants.{Waiting, Sent, Open}
 
 -- what the tile keeps for one domain: the list of its one channel and its stage, whether an output and a switch were ever
 -- won, and the attachment
 pub record One : Type 0 where
   pub queue : List Flit
-  pub way : Way
+  pub claim : Claim
   pub won : Bool
   pub granted : Bool
   pub packet : Packet
@@ -27,16 +27,16 @@ pub record One : Type 0 where
   pub ejected : Option Flit
 
 -- the stage of the channel: all goes by the local output
-abbrev pub stage_of : Way → Stage
+abbrev pub stage_of : Claim → Stage
 stage_of Waiting = Idle
 stage_of Sent = Routed 0
 stage_of Open = Active 0 0
 
 -- whether the channel holds the output
-abbrev pub is_open_way : Way → Bool
-is_open_way Waiting = false
-is_open_way Sent = false
-is_open_way Open = true
+abbrev pub is_open_claim : Claim → Bool
+is_open_claim Waiting = false
+is_open_claim Sent = false
+is_open_claim Open = true
 
 abbrev pub has_front : List Flit → Bool
 has_front [] = false
@@ -44,19 +44,19 @@ has_front (f ∷ fs) = true
 
 -- whether a flit leaves: the channel holds the output, its list has one, and the ejection place is empty or heard
 abbrev pub leaves_one : Bool → One → Bool
-leaves_one hears x = is_open_way x.way && (has_front x.queue && (is_none x.ejected || hears))
+leaves_one hears x = is_open_claim x.claim && (has_front x.queue && (is_none x.ejected || hears))
 
 -- the word that is taken
 abbrev pub taken_word : ℕ → One → Option Offer → Option Offer
 taken_word buffer x offer = if is_ready_packet x.packet (length x.queue) buffer then offer else None
 
--- the way of the channel after a cycle
-abbrev pub next_way : Bool → List Flit → Way → Way
-next_way leaves fs Waiting = if has_front fs then Sent else Waiting
-next_way leaves fs Sent = Open
-next_way leaves fs Open = if leaves && is_tail (front fs) then Waiting else Open
+-- the claim of the channel after a cycle
+abbrev pub next_claim : Bool → List Flit → Claim → Claim
+next_claim leaves fs Waiting = if has_front fs then Sent else Waiting
+next_claim leaves fs Sent = Open
+next_claim leaves fs Open = if leaves && is_tail (front fs) then Waiting else Open
 
-abbrev pub is_sent : Way → Bool
+abbrev pub is_sent : Claim → Bool
 is_sent Waiting = false
 is_sent Sent = true
 is_sent Open = false
@@ -67,8 +67,8 @@ next_one p d offer hears x =
     let word : Option Offer = taken_word p.buffer x offer in
     record {
       queue = drop (one_if (leaves_one hears x)) x.queue ++ option_to_list (entry p d x.packet word);
-      way = next_way (leaves_one hears x) x.queue x.way;
-      won = x.won || is_sent x.way;
+      claim = next_claim (leaves_one hears x) x.queue x.claim;
+      won = x.won || is_sent x.claim;
       granted = x.granted || leaves_one hears x;
       packet = next_packet p d x.packet word;
       dropped = is_dropped p d x.packet word;
@@ -77,13 +77,13 @@ next_one p d offer hears x =
 
 -- the start
 abbrev pub start_one : One
-start_one = record { queue = []; way = Waiting; won = false; granted = false; packet = Between; dropped = false; ejected = None }
+start_one = record { queue = []; claim = Waiting; won = false; granted = false; packet = Between; dropped = false; ejected = None }
 
 -- the state of a tile that is alone is this one, at each place that there is
 pub record Stands (x : One) (s : Tile) : Type 0 where
   pub queue : s.queue 0 0 ≡ x.queue
-  pub stage : s.stage 0 0 ≡ stage_of x.way
-  pub held : s.held 0 0 ≡ is_open_way x.way
+  pub stage : s.stage 0 0 ≡ stage_of x.claim
+  pub held : s.held 0 0 ≡ is_open_claim x.claim
   pub allocation : s.allocation 0 ≡ one_if x.won
   pub switch : s.switch 0 ≡ one_if x.granted
   pub turn : s.turn 0 ≡ one_if x.granted

@@ -3,16 +3,16 @@
 ghost use Rattle.std.specs.Prelude.{◌≡◌, ◌<◌, ◌≤◌, ◌++◌, ◌&&◌, ◌||◌, List, [], ◌∷◌, length, drop, IfOk, IsSome, if◌then◌else◌, None, option_to_list, vec_len, vec_capacity};
 ghost use Rattle.noc_model.specs.Step.{is_ready_packet, goes_to, entry, next_packet, is_dropped, front, one_if, next_ejected, with_channel};
 ghost use Rattle.noc_model.specs.Events.{ejected_of};
-ghost use Rattle.cycle_sim.specs.OneTile.{next_one, start_one, taken_word, leaves_one, next_way, is_open_way, has_front, is_sent};
+ghost use Rattle.cycle_sim.specs.OneTile.{next_one, start_one, taken_word, leaves_one, next_claim, is_open_claim, has_front, is_sent};
 
 use flit_word::{Ejected, Flit, Offer};
 use noc_model::{Packet, Plan};
 use std::alloc::{AllocError, Global};
 use std::marker::Model;
 
-/// Where the channel stands.
+/// The claim of the channel on the output.
 #[derive(Clone, Copy)]
-pub(crate) enum Way {
+pub(crate) enum Claim {
     /// It has no output.
     Waiting,
     /// It is routed to the output, which it does not hold yet.
@@ -28,7 +28,7 @@ const ROOM: usize = 16;
 #[derive(Drop)]
 pub(crate) struct OneTile {
     queue: Vec<Flit>,
-    way: Way,
+    claim: Claim,
     won: bool,
     granted: bool,
     packet: Packet,
@@ -42,7 +42,7 @@ impl Model for OneTile {
 
     ghost Value = { One };
 
-    ghost view = { λ a. record { queue = a.queue.items; way = a.way; won = a.won; granted = a.granted; packet = a.packet; dropped = a.dropped; ejected = a.ejected } };
+    ghost view = { λ a. record { queue = a.queue.items; claim = a.claim; won = a.won; granted = a.granted; packet = a.packet; dropped = a.dropped; ejected = a.ejected } };
 
     ghost invariant = { λ a. 16 ≤ vec_capacity a.queue };
 }
@@ -111,30 +111,30 @@ fn is_dropped(plan: &Plan, d: u32, packet: Packet, word: Option<Offer>) -> bool
 }
 
 /// Where the channel stands after a cycle.
-fn next_way(leaves: bool, queue: &[Flit], way: Way) -> Way
-    ensures { result ≡ next_way leaves queue.now way }
+fn next_claim(leaves: bool, queue: &[Flit], claim: Claim) -> Claim
+    ensures { result ≡ next_claim leaves queue.now claim }
 {
-    match way {
-        Way::Waiting => {
+    match claim {
+        Claim::Waiting => {
             if queue.is_empty() {
-                Way::Waiting
+                Claim::Waiting
             } else {
-                Way::Sent
+                Claim::Sent
             }
         }
-        Way::Sent => Way::Open,
-        Way::Open => match queue {
-            [front, ..] if leaves && front.tail => Way::Waiting,
-            _ => Way::Open,
+        Claim::Sent => Claim::Open,
+        Claim::Open => match queue {
+            [front, ..] if leaves && front.tail => Claim::Waiting,
+            _ => Claim::Open,
         },
     }
 }
 
 /// Whether the channel waits for the output.
-fn is_sent(way: Way) -> bool
-    ensures { result ≡ is_sent way }
+fn is_sent(claim: Claim) -> bool
+    ensures { result ≡ is_sent claim }
 {
-    matches!(way, Way::Sent)
+    matches!(claim, Claim::Sent)
 }
 
 fn either(a: bool, b: bool) -> bool
@@ -160,7 +160,7 @@ impl OneTile {
     {
         Ok(OneTile {
             queue: Vec::with_capacity(alloc, ROOM)?,
-            way: Way::Waiting,
+            claim: Claim::Waiting,
             won: false,
             granted: false,
             packet: Packet::Between,
@@ -204,7 +204,7 @@ impl OneTile {
     fn leaves(&self, hears: bool) -> bool
         ensures { result ≡ leaves_one hears self.now }
     {
-        matches!(self.way, Way::Open)
+        matches!(self.claim, Claim::Open)
             && !self.queue.as_slice().is_empty()
             && (self.ejected.is_none() || hears)
     }
@@ -224,11 +224,11 @@ impl OneTile {
         let word = self.taken_word(plan.buffer(), offer);
         let leaves = self.leaves(hears);
         let packet = self.packet;
-        let way = next_way(leaves, self.queue.as_slice(), self.way);
+        let claim = next_claim(leaves, self.queue.as_slice(), self.claim);
         let ejected = next_ejected(leaves, self.queue.as_slice(), hears, self.ejected);
-        let won = either(self.won, is_sent(self.way));
+        let won = either(self.won, is_sent(self.claim));
         advance(&mut self.queue, leaves, entry(plan, d, packet, word));
-        self.way = way;
+        self.claim = claim;
         self.won = won;
         self.granted = either(self.granted, leaves);
         self.packet = next_packet(plan, d, packet, word);

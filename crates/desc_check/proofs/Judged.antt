@@ -1,6 +1,6 @@
 -- What a draft without a fault has.
 use Rattle.std.proofs.Common.{◌≡◌, ℕ, ◌+◌, ◌<◌, Bool, true, false, not, ◌&&◌, ◌||◌, List, length, get_or, Option, Some, None, refl, arith}
-use Rattle.std.specs.Prelude.{nat_lt, ℤ, pos}
+use Rattle.std.specs.Prelude.{nat_le, nat_lt, ℤ, pos}
 use Rattle.std.specs.Option.{option_or}
 use Rattle.std.specs.Ordering.{int_eq}
 use Rattle.std.specs.Str.{bytes_eq}
@@ -47,9 +47,9 @@ names_apart xs h i j d less below =
     let at = none_at (λ j y. fault_if (nat_lt (0 + i) j && bytes_eq (get_or xs i d).name y.name) (DomainTwice (0 + i) j)) 0 xs row j d below in
     second (nat_lt (0 + i) (0 + j)) _ (holds_not _ (DomainTwice (0 + i) (0 + j)) at) (before i j less)
 
-pub good_tile : (tiles : ℕ) (xs : List DraftRange) → range_tile_fault tiles xs ≡ None → (k : ℕ) (d : DraftRange) → k < length xs → (is_below tiles (get_or xs k d).tile ≡ true) × (nat_lt 1023 (0 + k) ≡ false)
+pub good_tile : (tiles : ℕ) (xs : List DraftRange) → range_tile_fault tiles xs ≡ None → (k : ℕ) (d : DraftRange) → k < length xs → (is_below tiles (get_or xs k d).tile ≡ true) × (nat_le 1024 (0 + k) ≡ false)
 good_tile tiles xs h k d less =
-    left_of _ (nat_lt 1023 (0 + k)) (holds_not _ (RangeTile (0 + k)) (none_at (λ i x. fault_if (not (is_below tiles x.tile) || nat_lt 1023 i) (RangeTile i)) 0 xs h k d less))
+    left_of _ (nat_le 1024 (0 + k)) (holds_not _ (RangeTile (0 + k)) (none_at (λ i x. fault_if (not (is_below tiles x.tile) || nat_le 1024 i) (RangeTile i)) 0 xs h k d less))
 
 pub in_order : (xs : List DraftRange) → range_order_fault xs ≡ None → (k : ℕ) (d : DraftRange) → k < length xs → is_in_order (get_or xs k d) ≡ true
 in_order xs h k d less = holds _ (RangeOrder (0 + k)) (none_at (λ i x. fault_if (not (is_in_order x)) (RangeOrder i)) 0 xs h k d less)

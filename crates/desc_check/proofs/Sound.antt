@@ -217,7 +217,7 @@ range_apart i j x y less h k f =
 few_ranges : (n : ℕ) (xs : List DraftRange) → range_tile_fault n xs ≡ None → length xs ≤ 1024
 few_ranges n xs h =
     elim (cases_lt 1024 (length xs)) [
-      | inl more ↦ absurd (let no : nat_lt 1023 (0 + 1024) ≡ false = (good_tile n xs h 1024 (record { tile = pos 0; first = pos 0; last = pos 0 }) more).1 in cc)
+      | inl more ↦ absurd (let no : nat_le 1024 (0 + 1024) ≡ false = (good_tile n xs h 1024 (record { tile = pos 0; first = pos 0; last = pos 0 }) more).1 in cc)
       | inr less ↦ less
     ]
 

@@ -1,5 +1,6 @@
 -- A draft's first fault: a condition is looked at only where no smaller number holds.
 use Rattle.std.specs.Prelude.{◌≤◌, [], ◌∷◌, length, Option}
+use Rattle.noc_model.specs.Limits.{most_tiles, most_buffer, most_domains}
 use Rattle.noc_model.specs.Plan.{Plan, tiles, places}
 use Rattle.noc_model.specs.Sound.{AreSides, HaveChannels}
 use Rattle.noc_desc.specs.declared.Draft.{Draft}
@@ -25,9 +26,9 @@ ranges_fault d = first_of (range_tile_fault (tile_count d.dims) d.ranges ∷ ran
 pub record IsSized (p : Plan) : Type 0 where
   pub dims : length p.dims ≤ 3
   pub sides : AreSides p.dims
-  pub tile_count : tiles p ≤ 256
-  pub buffer : p.buffer ≤ 16
-  pub domains : length p.domains ≤ 16
+  pub tile_count : tiles p ≤ most_tiles
+  pub buffer : p.buffer ≤ most_buffer
+  pub domains : length p.domains ≤ most_domains
   pub channels : HaveChannels p.domains
 
 -- the plan has too many places or attachments

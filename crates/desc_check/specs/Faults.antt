@@ -10,6 +10,7 @@ use Rattle.noc_desc.specs.declared.DraftTile.{DraftTile}
 use Rattle.noc_desc.specs.declared.DraftRange.{DraftRange}
 use Rattle.desc_check.specs.Words.{is_between, is_within, is_below, is_name, is_domain, is_among, fault_if, first_at}
 use Rattle.desc_check.specs.Network.{tile_count}
+use Rattle.noc_model.specs.Limits.{most_tiles, most_stages, most_buffer, most_domains, most_channels, most_hosts, most_ranges, most_places, most_slots}
 
 -- ---- the form of the network
 
@@ -25,26 +26,26 @@ shape_fault shape = fault_if (not (bytes_eq shape (codes "mesh") || bytes_eq sha
 abbrev pub most_sides : ℤ → ℕ
 most_sides version = if int_eq version (pos 1) then 2 else 3
 
--- one side or more, each of 1 to 16 tiles, with at most 256 tiles in all
+-- one side or more, each of 1 to 16 tiles, with not too many tiles in all
 abbrev pub has_sides : ℤ → List ℤ → Bool
-has_sides version dims = is_between 1 (most_sides version) (length dims) && list_all (is_within 1 16) dims && nat_le (tile_count dims) 256
+has_sides version dims = is_between 1 (most_sides version) (length dims) && list_all (is_within 1 16) dims && nat_le (tile_count dims) most_tiles
 
 abbrev pub dims_fault : ℤ → List ℤ → Option DescFault
 dims_fault version dims = fault_if (not (has_sides version dims)) Dims
 
--- the stages of a link are not 1 to 4
+-- a link has no stage, or too many
 abbrev pub stages_fault : ℤ → Option DescFault
-stages_fault stages = fault_if (not (is_within 1 4 stages)) Stages
+stages_fault stages = fault_if (not (is_within 1 most_stages stages)) Stages
 
--- a channel's list holds not 1 to 16 flits
+-- a channel's buffer holds no flit, or too many
 abbrev pub buffer_fault : ℤ → Option DescFault
-buffer_fault buffer = fault_if (not (is_within 1 16 buffer)) Buffer
+buffer_fault buffer = fault_if (not (is_within 1 most_buffer buffer)) Buffer
 
 -- ---- the domains
 
--- there are not 1 to 16 domains
+-- there is no domain, or there are too many
 abbrev pub domain_count_fault : List DraftDomain → Option DescFault
-domain_count_fault domains = fault_if (not (is_between 1 16 (length domains))) DomainCount
+domain_count_fault domains = fault_if (not (is_between 1 most_domains (length domains))) DomainCount
 
 -- the first domain without a good name
 abbrev pub domain_name_fault : List DraftDomain → Option DescFault
@@ -58,9 +59,9 @@ same_name_fault domains i x = first_at (λ j y. fault_if (nat_lt i j && bytes_eq
 abbrev pub domain_twice_fault : List DraftDomain → Option DescFault
 domain_twice_fault domains = first_at (same_name_fault domains) 0 domains
 
--- the first domain without 1 to 4 channels
+-- the first domain without a channel, or with too many
 abbrev pub channels_fault : List DraftDomain → Option DescFault
-channels_fault domains = first_at (λ i x. fault_if (not (is_within 1 4 x.channels)) (Channels i)) 0 domains
+channels_fault domains = first_at (λ i x. fault_if (not (is_within 1 most_channels x.channels)) (Channels i)) 0 domains
 
 -- ---- the tiles
 
@@ -94,9 +95,9 @@ host_twice_fault elements = first_at repeated_name_fault 0 elements
 
 -- ---- the ranges
 
--- the first range of no tile, or after the 1,024th
+-- the first range of no tile, or beyond the most ranges
 abbrev pub range_tile_fault : ℕ → List DraftRange → Option DescFault
-range_tile_fault tiles ranges = first_at (λ i x. fault_if (not (is_below tiles x.tile) || nat_lt 1023 i) (RangeTile i)) 0 ranges
+range_tile_fault tiles ranges = first_at (λ i x. fault_if (not (is_below tiles x.tile) || nat_le most_ranges i) (RangeTile i)) 0 ranges
 
 -- addresses of 32 bits, the first not above the last
 unfoldable pub is_in_order : DraftRange → Bool
@@ -124,19 +125,19 @@ range_overlap_fault ranges = first_at (overlap_fault ranges) 0 ranges
 
 -- ---- the sizes
 
--- more than 24,576 places for flits
+-- too many buffer slots
 abbrev pub places_fault : ℕ → Option DescFault
-places_fault count = fault_if (nat_lt 24576 count) (PlacesMany count)
+places_fault count = fault_if (nat_lt most_places count) (PlacesMany count)
 
--- more than 256 attachments
+-- too many attachments
 abbrev pub attach_fault : ℕ → Option DescFault
-attach_fault count = fault_if (nat_lt 256 count) (AttachMany count)
+attach_fault count = fault_if (nat_lt most_hosts count) (AttachMany count)
 
 -- ---- the slots
 
--- version 2 has not 1 to 64 slots
+-- version 2 has no slot, or too many
 abbrev pub slot_count_fault : ℤ → List (List ℕ) → Option DescFault
-slot_count_fault version slots = fault_if (int_eq version (pos 2) && not (is_between 1 64 (length slots))) SlotCount
+slot_count_fault version slots = fault_if (int_eq version (pos 2) && not (is_between 1 most_slots (length slots))) SlotCount
 
 -- the first slot that is no domain's
 abbrev pub slot_unknown_fault : List DraftDomain → List (List ℕ) → Option DescFault

@@ -6,6 +6,7 @@ ghost use Rattle.desc_check.specs.Accepted.{domains_fault};
 
 use crate::words::{is_between, is_name, is_within};
 use noc_desc::{DescFault, Draft, DraftDomain};
+use noc_model::limits::{MOST_CHANNELS, MOST_DOMAINS};
 
 /// The first domain without a good name.
 fn domain_name_fault(domains: &[DraftDomain]) -> Option<DescFault>
@@ -48,7 +49,7 @@ fn channels_fault(domains: &[DraftDomain]) -> Option<DescFault>
     ensures { result ≡ channels_fault domains.now }
 {
     for (i, domain) in domains.iter().enumerate() {
-        if !is_within(1, 4, domain.channels) {
+        if !is_within(1, MOST_CHANNELS, domain.channels) {
             return Some(DescFault::Channels(i as u64));
         }
     }
@@ -60,7 +61,7 @@ pub(crate) fn domains_fault(draft: &Draft) -> Option<DescFault>
     ensures { result ≡ domains_fault draft.now }
 {
     let domains = draft.domains.as_slice();
-    if !is_between(1, 16, domains.len()) {
+    if !is_between(1, MOST_DOMAINS, domains.len()) {
         return Some(DescFault::DomainCount);
     }
     if let Some(fault) = domain_name_fault(domains) {

@@ -9,6 +9,7 @@ ghost use Rattle.desc_check.specs.Accepted.{form_fault};
 
 use crate::words::{fault_if, is_between, is_within};
 use noc_desc::{DescFault, Draft};
+use noc_model::limits::{MOST_BUFFER, MOST_STAGES, MOST_TILES};
 
 /// A number that was judged.
 pub(crate) fn number_of(value: i64) -> u32
@@ -54,7 +55,7 @@ fn has_sides(version: i64, dims: &[i64]) -> bool
     if !(is_between(1, most_sides(version), dims.len()) && are_sides(dims)) {
         return false;
     }
-    tile_count(dims) <= 256
+    tile_count(dims) <= MOST_TILES
 }
 
 /// A shape that is neither a mesh nor a torus.
@@ -78,8 +79,8 @@ pub(crate) fn form_fault(draft: &Draft) -> Option<DescFault>
     if !has_sides(draft.version, draft.dims.as_slice()) {
         return Some(DescFault::Dims);
     }
-    if !is_within(1, 4, draft.stages) {
+    if !is_within(1, MOST_STAGES, draft.stages) {
         return Some(DescFault::Stages);
     }
-    fault_if(!is_within(1, 16, draft.buffer), DescFault::Buffer)
+    fault_if(!is_within(1, MOST_BUFFER, draft.buffer), DescFault::Buffer)
 }

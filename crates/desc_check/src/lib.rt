@@ -26,6 +26,7 @@ mod upgrade;
 mod words;
 
 use noc_desc::{DescFault, Draft};
+use noc_model::limits::{MOST_HOSTS, MOST_PLACES};
 use noc_model::{Host, Parts, Plan};
 use std::alloc::Global;
 pub use upgrade::draft_of;
@@ -47,18 +48,21 @@ fn lists_fault(draft: &Draft) -> Option<DescFault>
     ranges::ranges_fault(tiles, draft)
 }
 
-/// More than 24,576 places.
+/// More places than a network may have.
 fn places_fault(count: u32) -> Option<DescFault>
     ensures { result ≡ places_fault count }
 {
-    words::fault_if(count > 24_576, DescFault::PlacesMany(u64::from(count)))
+    words::fault_if(count > MOST_PLACES, DescFault::PlacesMany(u64::from(count)))
 }
 
-/// More than 256 attachments.
+/// More attachments than a network may have.
 fn attach_fault(hosts: &[Host]) -> Option<DescFault>
     ensures { result ≡ attach_fault (length hosts.now) }
 {
-    words::fault_if(hosts.len() > 256, DescFault::AttachMany(hosts.len() as u64))
+    words::fault_if(
+        hosts.len() > MOST_HOSTS,
+        DescFault::AttachMany(hosts.len() as u64),
+    )
 }
 
 /// Too many places or attachments.

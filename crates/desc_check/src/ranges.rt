@@ -7,13 +7,14 @@ ghost use Rattle.desc_check.specs.Accepted.{ranges_fault};
 
 use crate::words::is_below;
 use noc_desc::{DescFault, Draft, DraftRange};
+use noc_model::limits::MOST_RANGES;
 
-/// The first range of no tile, or after the 1,024th.
+/// The first range of no tile, or beyond the most ranges.
 fn range_tile_fault(tiles: u32, ranges: &[DraftRange]) -> Option<DescFault>
     ensures { result ≡ range_tile_fault tiles ranges.now }
 {
     for (i, range) in ranges.iter().enumerate() {
-        if !is_below(tiles, range.tile) || i > 1023 {
+        if !is_below(tiles, range.tile) || i >= MOST_RANGES {
             return Some(DescFault::RangeTile(i as u64));
         }
     }

@@ -6,14 +6,15 @@ ghost use Rattle.desc_check.specs.Accepted.{slots_fault};
 
 use crate::words::{fault_if, is_among, is_between, is_domain};
 use noc_desc::{DescFault, Draft, DraftDomain};
+use noc_model::limits::MOST_SLOTS;
 use surf_base::Bytes;
 
-/// Version 2 without 1 to 64 slots.
+/// Version 2 without a slot, or with too many.
 fn slot_count_fault(version: i64, slots: &[Bytes]) -> Option<DescFault>
     ensures { result ≡ slot_count_fault version slots.now }
 {
     fault_if(
-        version == 2 && !is_between(1, 64, slots.len()),
+        version == 2 && !is_between(1, MOST_SLOTS, slots.len()),
         DescFault::SlotCount,
     )
 }

@@ -2,7 +2,7 @@
 use Rattle.std.proofs.Common.{◌≡◌, ◌∷◌, refl}
 use Rattle.std.specs.Prelude.{codes}
 use Rattle.noc_model.proofs.Everything.{everything}
-use Rattle.noc_model.proofs.Examples.{cube, quiet_for, offered, alone}
+use Rattle.noc_model.specs.Examples.{cube, quiet_for, offered, alone}
 use Rattle.noc_model.proofs.RunRows.{report_of}
 
 word_across_a_cube : report_of cube 0 (offered 0 (alone 0x700 5) ∷ quiet_for 19)

@@ -7,7 +7,7 @@ use Rattle.noc_model.specs.Flits.{inside, entered, delivered, delivered_to}
 use Rattle.noc_model.specs.Holder.{holder_of}
 use Rattle.noc_model.specs.Packets.{AreWholePackets, sent_on, entered_by}
 use Rattle.noc_model.proofs.Everything.{everything}
-use Rattle.noc_model.proofs.Examples.{two_tiles, three_in_a_row, quiet_for, offered, alone}
+use Rattle.noc_model.specs.Examples.{two_tiles, three_in_a_row, quiet_for, offered, alone}
 use Rattle.noc_model.proofs.RunRows.{both_ends}
 
 -- one word from tile 0 to tile 1

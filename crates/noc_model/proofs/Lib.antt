@@ -4,7 +4,6 @@ pub mod Named
 pub mod HostTiles
 pub mod Driven
 pub mod Everything
-pub mod Examples
 pub mod PlanRows
 pub mod RunRows
 pub mod CubeRow
@@ -22,6 +21,7 @@ pub mod Rank
 pub mod Route
 pub mod Quiet
 pub mod Modulo
+pub mod Checked
 pub mod SoundExamples
 pub mod Inputs
 pub mod Outputs

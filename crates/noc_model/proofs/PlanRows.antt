@@ -3,7 +3,7 @@ use Rattle.std.proofs.Common.{◌≡◌, ℕ, true, false, List, [], ◌∷◌, 
 use Rattle.std.specs.Prelude.{Option, Some, None, pos, negsuc}
 use Rattle.noc_model.specs.Plan.{Plan, places, lookup}
 use Rattle.noc_model.specs.Place.{coords_in, coord, side, opposite, neighbour, is_wrap, route, class_after, rank, wave, owner}
-use Rattle.noc_model.proofs.Examples.{plain, named_from, two_tiles, split_domains, weighted_slots, ring_of_three, ring_of_four, cube}
+use Rattle.noc_model.specs.Examples.{plain, named_from, two_tiles, split_domains, weighted_slots, ring_of_three, ring_of_four, cube}
 
 -- the owners of the link by plus from tile 0, and by minus from tile 1
 abbrev owners_at : Plan → ℕ → List ℕ

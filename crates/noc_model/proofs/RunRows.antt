@@ -8,7 +8,7 @@ use Rattle.noc_model.specs.Report.{report}
 use Rattle.noc_model.specs.Driver.{Driver, driven_events}
 use Rattle.noc_model.specs.declared.Offer.{Offer}
 use Rattle.noc_model.proofs.Everything.{everything}
-use Rattle.noc_model.proofs.Examples.{one_tile, two_tiles, three_in_a_row, ring_of_three, ring_of_four, five_in_a_row, split_domains, weighted_slots, quiet_for, offered, alone, deaf}
+use Rattle.noc_model.specs.Examples.{one_tile, two_tiles, three_in_a_row, ring_of_three, ring_of_four, five_in_a_row, split_domains, weighted_slots, quiet_for, offered, alone, deaf}
 
 -- the report of domain d, which is offered this from cycle 0 on
 abbrev pub report_of : Plan → ℕ → List Input → List ℕ

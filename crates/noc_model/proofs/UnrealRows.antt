@@ -6,7 +6,7 @@ use Rattle.noc_model.specs.Tile.{Tile, TileIn, start_tile}
 use Rattle.noc_model.specs.Step.{tile_step}
 use Rattle.noc_model.specs.Run.{run}
 use Rattle.noc_model.proofs.Everything.{everything}
-use Rattle.noc_model.proofs.Examples.{one_tile, two_tiles, quiet_for}
+use Rattle.noc_model.specs.Examples.{one_tile, two_tiles, quiet_for}
 use Rattle.noc_model.proofs.FlitRows.{crossing}
 
 abbrev nothing_comes : TileIn

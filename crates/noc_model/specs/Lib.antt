@@ -23,3 +23,5 @@ pub mod Reached
 pub mod Flits
 pub mod Packets
 pub mod Delivery
+pub mod Limits
+pub mod Examples

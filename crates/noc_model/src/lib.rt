@@ -11,6 +11,7 @@ mod copies;
 mod domains;
 mod drive;
 pub mod laws;
+pub mod limits;
 mod lookups;
 mod plan;
 mod sides;

@@ -2,7 +2,7 @@
 use Rattle.std.proofs.Common.{◌≡◌, ℕ, Bool, true, false, List, [], ◌∷◌, Some, None, refl}
 use Rattle.std.specs.Prelude.{Option, map}
 use Rattle.noc_model.specs.declared.Offer.{Offer}
-use Rattle.noc_model.proofs.Examples.{two_tiles}
+use Rattle.noc_model.specs.Examples.{two_tiles}
 use Rattle.trace_read.specs.declared.entries.Entry.{Entry}
 use Rattle.trace_read.specs.declared.entries.Entry.TheVariants.{Send, Hold}
 use Rattle.tile_drive.specs.TraceDriver.{trace_driver, untaken}

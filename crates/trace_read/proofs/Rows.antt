@@ -2,7 +2,7 @@
 use Rattle.std.proofs.Common.{◌≡◌, [], ◌∷◌, ◌++◌, Some, None, codes, refl}
 use Rattle.std.specs.Prelude.{map}
 use Rattle.surf_base.specs.Numbers.{decimal_in, hex_in}
-use Rattle.noc_model.proofs.Examples.{one_tile, two_tiles, split_domains}
+use Rattle.noc_model.specs.Examples.{one_tile, two_tiles, split_domains}
 use Rattle.trace_read.specs.declared.entries.Entry.TheVariants.{Send, Hold}
 use Rattle.trace_read.specs.declared.fault.TraceFault.TheVariants.{Syntax, Number, TileRange, DomainUnknown, NotHosted, WordCount}
 use Rattle.trace_read.specs.Text.{fields}

@@ -36,9 +36,13 @@ is_unknown p name = is_none (domain_named p name)
 abbrev pub is_not_hosted : Plan → ℕ → List ℕ → Bool
 is_not_hosted p tile name = not (hosts p tile (unwrap_or (domain_named p name) 0))
 
--- a send of no word, or of more than 256
+-- the most words of a send
+abbrev pub most_words : ℕ
+most_words = 256
+
+-- a send of no word, or of too many
 abbrev pub is_miscounted : List (List ℕ) → Bool
-is_miscounted fs = is_send fs && ((length (drop 5 fs) == 0) || nat_lt 256 (length (drop 5 fs)))
+is_miscounted fs = is_send fs && ((length (drop 5 fs) == 0) || nat_lt most_words (length (drop 5 fs)))
 
 -- the first fault whose test holds
 abbrev pub first_of : List (Bool × TraceFault) → Option TraceFault

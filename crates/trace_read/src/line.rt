@@ -8,7 +8,7 @@ ghost use Rattle.noc_model.specs.Plan.{Plan as PlanValue};
 ghost use Rattle.trace_read.specs.declared.fault.TraceFault.{TraceFault};
 ghost use Rattle.trace_read.specs.Text.{fields};
 ghost use Rattle.trace_read.specs.Entries.{is_skipped, is_send, number, word_of, domain_named, attach_named, entry_of, line_entry};
-ghost use Rattle.trace_read.specs.Faults.{has_no_word, first_of, place_faults, field_faults, all_faults, line_fault};
+ghost use Rattle.trace_read.specs.Faults.{has_no_word, most_words, first_of, place_faults, field_faults, all_faults, line_fault};
 ghost use Rattle.trace_read.specs.Accepted.{MemoryOr};
 ghost use Rattle.trace_read.specs.Heads.{head_fields};
 
@@ -18,6 +18,9 @@ use crate::text::{is_plain, next_field};
 use noc_model::Plan;
 use std::alloc::{AllocError, Global};
 use surf_base::{read_decimal, read_hex};
+
+/// The most words of a send.
+const MOST_WORDS: usize = 256;
 
 /// The five fields that each entry has, and what is behind them.
 #[derive(Drop)]
@@ -128,11 +131,11 @@ fn is_hold(verb: &[u8]) -> bool
     verb == b"hold".as_slice()
 }
 
-/// Whether there is no word, or more than 256.
+/// Whether there is no word, or too many.
 fn is_miscounted(words: &Words) -> bool
-    ensures { result ≡ ((length words.now == 0) || nat_lt 256 (length words.now)) }
+    ensures { result ≡ ((length words.now == 0) || nat_lt most_words (length words.now)) }
 {
-    words.len() == 0 || words.len() > 256
+    words.len() == 0 || words.len() > MOST_WORDS
 }
 
 /// The entry of a line that asks for a send.

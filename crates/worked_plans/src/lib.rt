@@ -6,7 +6,7 @@
 
 ghost use Rattle.std.specs.Prelude.{◌≡◌, map, take, IfOk};
 ghost use Rattle.noc_model.specs.Sound.{IsSound};
-ghost use Rattle.noc_model.proofs.Examples as examples;
+ghost use Rattle.noc_model.specs.Examples as examples;
 ghost use Rattle.worked_plans.specs.Shapes.{named, plan_in};
 
 use noc_model::{DomainPart, Host, Parts, Plan, Range};

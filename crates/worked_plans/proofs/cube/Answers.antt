@@ -1,4 +1,4 @@
-use Rattle.worked_plans.proofs.WorkedSound.{cube-sound}
+use Rattle.noc_model.proofs.SoundExamples.{cube-sound}
 use Rattle.worked_plans.proofs.cube.Goals as goal
 
 pub plan_in-requires : goal.plan_in-requires

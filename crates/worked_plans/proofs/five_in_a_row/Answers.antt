@@ -1,4 +1,4 @@
-use Rattle.worked_plans.proofs.WorkedSound.{five_in_a_row-sound}
+use Rattle.noc_model.proofs.SoundExamples.{five_in_a_row-sound}
 use Rattle.worked_plans.proofs.five_in_a_row.Goals as goal
 
 pub plan_in-requires : goal.plan_in-requires

@@ -1,4 +1,4 @@
-use Rattle.worked_plans.proofs.WorkedSound.{one_tile-sound}
+use Rattle.noc_model.proofs.SoundExamples.{one_tile-sound}
 use Rattle.worked_plans.proofs.one_tile.Goals as goal
 
 pub plan_in-requires : goal.plan_in-requires

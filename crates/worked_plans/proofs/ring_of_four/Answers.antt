@@ -1,4 +1,4 @@
-use Rattle.worked_plans.proofs.WorkedSound.{ring_of_four-sound}
+use Rattle.noc_model.proofs.SoundExamples.{ring_of_four-sound}
 use Rattle.worked_plans.proofs.ring_of_four.Goals as goal
 
 pub plan_in-requires : goal.plan_in-requires

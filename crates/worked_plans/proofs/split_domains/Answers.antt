@@ -1,4 +1,4 @@
-use Rattle.worked_plans.proofs.WorkedSound.{split_domains-sound}
+use Rattle.noc_model.proofs.SoundExamples.{split_domains-sound}
 use Rattle.worked_plans.proofs.split_domains.Goals as goal
 
 pub plan_in-requires : goal.plan_in-requires

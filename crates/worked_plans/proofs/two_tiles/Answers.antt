@@ -1,4 +1,4 @@
-use Rattle.worked_plans.proofs.WorkedSound.{two_tiles-sound}
+use Rattle.noc_model.proofs.SoundExamples.{two_tiles-sound}
 use Rattle.worked_plans.proofs.two_tiles.Goals as goal
 
 pub plan_in-requires : goal.plan_in-requires

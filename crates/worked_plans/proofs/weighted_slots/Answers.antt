@@ -1,4 +1,4 @@
-use Rattle.worked_plans.proofs.WorkedSound.{weighted_slots-sound}
+use Rattle.noc_model.proofs.SoundExamples.{weighted_slots-sound}
 use Rattle.worked_plans.proofs.weighted_slots.Goals as goal
 
 pub plan_in-requires : goal.plan_in-requires

@@ -8,9 +8,9 @@ use Rattle.std.proofs.lemmas.Bool.Decides.{nat_tests}
 use Rattle.noc_model.specs.declared.plan.DomainPart.{DomainPart}
 use Rattle.noc_model.specs.declared.Host.{Host}
 use Rattle.noc_model.specs.declared.Range.{Range}
+use Rattle.noc_model.specs.Limits.{most_tiles, most_stages, most_buffer, most_domains, most_channels, most_hosts, most_ranges, most_places, most_slots}
 use Rattle.noc_model.specs.Plan.{Plan, tiles, places}
 use Rattle.noc_model.specs.Sound.{IsSound, IsName, IsNameByte, IsBefore, IsRangeIn, AreApart}
-use Rattle.noc_model.proofs.SoundExamples.{pairs-cons}
 
 -- ---- tests
 
@@ -46,17 +46,24 @@ covers (suc n) xs = list_any (λ m. n == m) xs && covers n xs
 
 abbrev sizes : Plan → Bool
 sizes p =
-    within 1 3 (length p.dims) && (nat_le (tiles p) 256 && (within 1 4 p.stages && (within 1 16 p.buffer && (within 1 16 (length p.domains)
-    && (nat_le (length p.hosts) 256 && (nat_le (length p.ranges) 1024 && (nat_le (places p) 24576 && within 1 64 (length p.slots))))))))
+    within 1 3 (length p.dims) && (nat_le (tiles p) most_tiles && (within 1 most_stages p.stages && (within 1 most_buffer p.buffer && (within 1 most_domains (length p.domains)
+    && (nat_le (length p.hosts) most_hosts && (nat_le (length p.ranges) most_ranges && (nat_le (places p) most_places && within 1 most_slots (length p.slots))))))))
 
 abbrev lists : Plan → Bool
 lists p =
     list_all (within 1 16) p.dims && (list_all (λ (x : DomainPart). is_word x.name) p.domains && (pairs differ p.domains
-    && (list_all (λ (x : DomainPart). within 1 4 x.channels) p.domains && (list_all (λ (h : Host). nat_lt h.tile (tiles p) && nat_lt h.domain (length p.domains)) p.hosts
+    && (list_all (λ (x : DomainPart). within 1 most_channels x.channels) p.domains && (list_all (λ (h : Host). nat_lt h.tile (tiles p) && nat_lt h.domain (length p.domains)) p.hosts
     && (pairs is_before p.hosts && (list_all (is_range_in (tiles p)) p.ranges && (pairs are_apart p.ranges
     && (list_all (λ d. nat_lt d (length p.domains)) p.slots && covers (length p.domains) p.slots))))))))
 
 -- ---- what they say
+
+-- pairs with the first element, and pairs of the rest
+pairs-cons : {X : Type 0} (R : X → X → Type 0) (x : X) (xs : List X) → All (R x) xs → AllPairs R xs → AllPairs R (x ∷ xs)
+pairs-cons R x xs first rest zero zero d less below = absurd (omega arith)
+pairs-cons R x xs first rest zero (suc j) d less below = first j d (omega arith)
+pairs-cons R x xs first rest (suc i) zero d less below = absurd (omega arith)
+pairs-cons R x xs first rest (suc i) (suc j) d less below = rest i j d (omega arith) (omega arith)
 
 both : (a b : Bool) → (a && b) ≡ true → (a ≡ true) × (b ≡ true)
 both true b h = (refl, h)
@@ -138,17 +145,17 @@ covered (suc n) xs h d less = go (n == d) refl (λ low. covered n xs parts.1 d l
 pub sound : (p : Plan) → sizes p ≡ true → lists p ≡ true → IsSound p
 sound p s l =
     let s1 = both (within 1 3 (length p.dims)) _ s in
-    let s2 = both (nat_le (tiles p) 256) _ s1.1 in
-    let s3 = both (within 1 4 p.stages) _ s2.1 in
-    let s4 = both (within 1 16 p.buffer) _ s3.1 in
-    let s5 = both (within 1 16 (length p.domains)) _ s4.1 in
-    let s6 = both (nat_le (length p.hosts) 256) _ s5.1 in
-    let s7 = both (nat_le (length p.ranges) 1024) _ s6.1 in
-    let s8 = both (nat_le (places p) 24576) _ s7.1 in
+    let s2 = both (nat_le (tiles p) most_tiles) _ s1.1 in
+    let s3 = both (within 1 most_stages p.stages) _ s2.1 in
+    let s4 = both (within 1 most_buffer p.buffer) _ s3.1 in
+    let s5 = both (within 1 most_domains (length p.domains)) _ s4.1 in
+    let s6 = both (nat_le (length p.hosts) most_hosts) _ s5.1 in
+    let s7 = both (nat_le (length p.ranges) most_ranges) _ s6.1 in
+    let s8 = both (nat_le (places p) most_places) _ s7.1 in
     let l1 = both (list_all (within 1 16) p.dims) _ l in
     let l2 = both (list_all (λ (x : DomainPart). is_word x.name) p.domains) _ l1.1 in
     let l3 = both (pairs differ p.domains) _ l2.1 in
-    let l4 = both (list_all (λ (x : DomainPart). within 1 4 x.channels) p.domains) _ l3.1 in
+    let l4 = both (list_all (λ (x : DomainPart). within 1 most_channels x.channels) p.domains) _ l3.1 in
     let l5 = both (list_all (λ (h : Host). nat_lt h.tile (tiles p) && nat_lt h.domain (length p.domains)) p.hosts) _ l4.1 in
     let l6 = both (pairs is_before p.hosts) _ l5.1 in
     let l7 = both (list_all (is_range_in (tiles p)) p.ranges) _ l6.1 in
@@ -157,22 +164,22 @@ sound p s l =
     record {
       dims = within-says 1 3 (length p.dims) s1.0;
       sides = all (within 1 16) (λ k. (1 ≤ k) × (k ≤ 16)) (within-says 1 16) p.dims l1.0;
-      tile_count = le (tiles p) 256 s2.0;
-      stages = within-says 1 4 p.stages s3.0;
-      buffer = within-says 1 16 p.buffer s4.0;
-      domains = within-says 1 16 (length p.domains) s5.0;
+      tile_count = le (tiles p) most_tiles s2.0;
+      stages = within-says 1 most_stages p.stages s3.0;
+      buffer = within-says 1 most_buffer p.buffer s4.0;
+      domains = within-says 1 most_domains (length p.domains) s5.0;
       names = all (λ (x : DomainPart). is_word x.name) (λ (x : DomainPart). IsName x.name) (λ (x : DomainPart). word x.name) p.domains l2.0;
       names_apart = all_pairs differ (λ (x y : DomainPart). x.name ≢ y.name) names p.domains l3.0;
-      channels = all (λ (x : DomainPart). within 1 4 x.channels) (λ (x : DomainPart). (1 ≤ x.channels) × (x.channels ≤ 4)) (λ (x : DomainPart). within-says 1 4 x.channels) p.domains l4.0;
+      channels = all (λ (x : DomainPart). within 1 most_channels x.channels) (λ (x : DomainPart). (1 ≤ x.channels) × (x.channels ≤ most_channels)) (λ (x : DomainPart). within-says 1 most_channels x.channels) p.domains l4.0;
       hosts = all (λ (h : Host). nat_lt h.tile (tiles p) && nat_lt h.domain (length p.domains)) (λ (h : Host). (h.tile < tiles p) × (h.domain < length p.domains))
           (λ (h : Host) is. let parts = both (nat_lt h.tile (tiles p)) _ is in (lt h.tile (tiles p) parts.0, lt h.domain (length p.domains) parts.1)) p.hosts l5.0;
       hosts_in_order = all_pairs is_before IsBefore before p.hosts l6.0;
-      host_count = le (length p.hosts) 256 s6.0;
+      host_count = le (length p.hosts) most_hosts s6.0;
       ranges = all (is_range_in (tiles p)) (IsRangeIn (tiles p)) (range_in (tiles p)) p.ranges l7.0;
       ranges_apart = all_pairs are_apart AreApart apart p.ranges l8.0;
-      range_count = le (length p.ranges) 1024 s7.0;
-      place_count = le (places p) 24576 s8.0;
-      slot_count = within-says 1 64 (length p.slots) s8.1;
+      range_count = le (length p.ranges) most_ranges s7.0;
+      place_count = le (places p) most_places s8.0;
+      slot_count = within-says 1 most_slots (length p.slots) s8.1;
       slots = all (λ d. nat_lt d (length p.domains)) (λ d. d < length p.domains) (λ d. lt d (length p.domains)) p.slots l9.0;
       each_has_slot = covered (length p.domains) p.slots l9.1;
     }

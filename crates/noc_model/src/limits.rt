@@ -1,0 +1,28 @@
+//! The greatest sizes of a network.
+
+/// Tiles in all.
+pub const MOST_TILES: u32 = 256;
+
+/// Stages of a link.
+pub const MOST_STAGES: u32 = 4;
+
+/// Flits in a channel's buffer.
+pub const MOST_BUFFER: u32 = 16;
+
+/// Domains.
+pub const MOST_DOMAINS: usize = 16;
+
+/// Virtual channels of each class, of a domain.
+pub const MOST_CHANNELS: u32 = 4;
+
+/// Attachments.
+pub const MOST_HOSTS: usize = 256;
+
+/// Address ranges.
+pub const MOST_RANGES: usize = 1024;
+
+/// Buffer slots in all.
+pub const MOST_PLACES: u32 = 24_576;
+
+/// Slots of the wave schedule.
+pub const MOST_SLOTS: usize = 64;
