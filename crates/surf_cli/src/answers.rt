@@ -65,7 +65,8 @@ impl Answer {
 
     /// Writes the answer.
     pub(crate) fn write<O: Sink>(self, out: &mut O) -> Result<(), Failed>
-        ensures { Delivers result (O.written out.old) (O.written out.new) (O.faults out.old) (O.faults out.new) (text_of self.text) }
+        ensures { Delivers result
+            (O.written out.old) (O.written out.new) (O.faults out.old) (O.faults out.new) (text_of self.text) }
     {
         let Answer { text, mut block } = self;
         text.put(&mut block, out)?;

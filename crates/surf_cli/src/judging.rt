@@ -45,7 +45,8 @@ pub(crate) fn judge(alloc: Global, bytes: &[u8]) -> Result<Plan, End>
 /// The entries of a trace.
 pub(crate) fn judge_trace(alloc: Global, plan: &Plan, bytes: &[u8]) -> Result<Trace, End>
     ensures ok { IfOk result (λ es. (next : List Entry → Outcome) → with_trace plan.now bytes.now next ≡ next es) }
-    ensures err { IfErr result (λ end. (next : List Entry → Outcome) → IsRefused (with_trace plan.now bytes.now next) end) }
+    ensures err { IfErr result (λ end. (next : List Entry → Outcome)
+        → IsRefused (with_trace plan.now bytes.now next) end) }
 {
     match read_trace(alloc, plan, bytes) {
         Ok(trace) => Ok(trace),

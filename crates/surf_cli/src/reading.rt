@@ -16,8 +16,12 @@ fn read_file<F: Files>(
     files: &mut F,
     file: NamedFile<'_>,
 ) -> Result<Vec<u8>, TakeFault>
-    ensures ok { IfOk result (λ v. GotFile (named file.entry) (F.held files.old) (F.held files.new) (F.faults files.old) (F.faults files.new) (F.taken files.new) v.items) }
-    ensures err { IfErr result (λ fault. NotGot (named file.entry) (F.held files.old) (F.held files.new) (F.faults files.old) (F.faults files.new) (F.taken files.new) fault) }
+    ensures ok { IfOk result (λ v. GotFile (named file.entry)
+        (F.held files.old) (F.held files.new)
+        (F.faults files.old) (F.faults files.new) (F.taken files.new) v.items) }
+    ensures err { IfErr result (λ fault. NotGot (named file.entry)
+        (F.held files.old) (F.held files.new)
+        (F.faults files.old) (F.faults files.new) (F.taken files.new) fault) }
 {
     read_whole(alloc, files, file.name, file.kind.limit())
 }
@@ -29,9 +33,13 @@ fn read_more<F: Files>(
     list: &[NamedFile<'_>],
     contents: Contents,
 ) -> Result<Contents, TakeFault>
-    ensures ok { IfOk result (λ more. GotFiles (map named list.now) (F.held files.old) (F.held files.new) (F.faults files.old) (F.faults files.new) (F.taken files.new) (gathered contents) (gathered more)) }
+    ensures ok { IfOk result (λ more. GotFiles (map named list.now)
+        (F.held files.old) (F.held files.new)
+        (F.faults files.old) (F.faults files.new) (F.taken files.new) (gathered contents) (gathered more)) }
     ensures none { list.now ≡ [] → (files.new ≡ files.old) × IsOk result }
-    ensures err { IfErr result (λ fault. GotNone (map named list.now) (F.held files.old) (F.held files.new) (F.faults files.old) (F.faults files.new) (F.taken files.new) fault) }
+    ensures err { IfErr result (λ fault. GotNone (map named list.now)
+        (F.held files.old) (F.held files.new)
+        (F.faults files.old) (F.faults files.new) (F.taken files.new) fault) }
 {
     let (first, rest) = match list.split_first() {
         Some(parts) => parts,
@@ -49,9 +57,13 @@ pub(crate) fn read_files<F: Files>(
     files: &mut F,
     names: NamedFiles<'_>,
 ) -> Result<Contents, TakeFault>
-    ensures ok { IfOk result (λ contents. GotFiles (listed names.entry) (F.held files.old) (F.held files.new) (F.faults files.old) (F.faults files.new) (F.taken files.new) nothing (gathered contents)) }
+    ensures ok { IfOk result (λ contents. GotFiles (listed names.entry)
+        (F.held files.old) (F.held files.new)
+        (F.faults files.old) (F.faults files.new) (F.taken files.new) nothing (gathered contents)) }
     ensures none { listed names.entry ≡ [] → (files.new ≡ files.old) × IsOk result }
-    ensures err { IfErr result (λ fault. GotNone (listed names.entry) (F.held files.old) (F.held files.new) (F.faults files.old) (F.faults files.new) (F.taken files.new) fault) }
+    ensures err { IfErr result (λ fault. GotNone (listed names.entry)
+        (F.held files.old) (F.held files.new)
+        (F.faults files.old) (F.faults files.new) (F.taken files.new) fault) }
 {
     let contents = Contents::new(alloc);
     match names {

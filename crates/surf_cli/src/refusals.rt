@@ -32,7 +32,8 @@ impl Refusal {
 
     /// Writes the line for the error stream.
     pub(crate) fn print<E: Sink>(&self, err: &mut E)
-        ensures { Says (line_of_refusal self.now) (E.written err.old) (E.written err.new) (E.faults err.old) (E.faults err.new) }
+        ensures { Says (line_of_refusal self.now)
+            (E.written err.old) (E.written err.new) (E.faults err.old) (E.faults err.new) }
     {
         match self {
             Refusal::Description(fault) => print_fault(fault, err),
@@ -44,7 +45,8 @@ impl Refusal {
 
 /// Writes the line of a description's fault to the error stream.
 fn print_fault<E: Sink>(fault: &DescFault, err: &mut E)
-    ensures { Says (line_of_refusal (Refusal.Description fault.now)) (E.written err.old) (E.written err.new) (E.faults err.old) (E.faults err.new) }
+    ensures { Says (line_of_refusal (Refusal.Description fault.now))
+        (E.written err.old) (E.written err.new) (E.faults err.old) (E.faults err.new) }
 {
     let mut line = [0; 96];
     let len = desc_check::fault_line(fault, &mut line);
@@ -53,7 +55,8 @@ fn print_fault<E: Sink>(fault: &DescFault, err: &mut E)
 
 /// Writes the line of a trace's fault to the error stream.
 fn print_trace_fault<E: Sink>(fault: &TraceFault, err: &mut E)
-    ensures { Says (line_of_refusal (Refusal.Trace fault.now)) (E.written err.old) (E.written err.new) (E.faults err.old) (E.faults err.new) }
+    ensures { Says (line_of_refusal (Refusal.Trace fault.now))
+        (E.written err.old) (E.written err.new) (E.faults err.old) (E.faults err.new) }
 {
     let mut line = [0; 96];
     let len = trace_read::fault_line(fault, &mut line);

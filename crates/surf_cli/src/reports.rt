@@ -41,7 +41,8 @@ impl Reports {
     ) -> Result<Reports, AllocError>
         requires built { IsBuilt plan }
         requires few { cycles ≤ 65536 }
-        ensures { IfOk result (λ reports. reports_of reports.plan (events_of reports.events) ≡ reports_text plan trace.now cycles) }
+        ensures { IfOk result (λ reports. reports_of reports.plan (events_of reports.events)
+            ≡ reports_text plan trace.now cycles) }
     {
         let events = simulate(alloc, &plan, trace, cycles)?;
         Ok(Reports { plan, events })
@@ -50,7 +51,8 @@ impl Reports {
     /// Puts the reports.
     pub(crate) fn put<O: Sink>(&self, block: &mut Block, out: &mut O) -> Result<(), Failed>
         ensures { Writes result (stream (O.written out.old) block.old (O.faults out.old))
-            (stream (O.written out.new) block.new (O.faults out.new)) (reports_of self.now.plan (events_of self.now.events)) }
+            (stream (O.written out.new) block.new (O.faults out.new))
+            (reports_of self.now.plan (events_of self.now.events)) }
     {
         for d in 0..self.plan.domains() {
             put_report(block, out, &self.plan, &self.events, d)?;

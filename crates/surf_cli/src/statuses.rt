@@ -116,7 +116,8 @@ impl End {
 
     /// Writes the line for the error stream; nothing where all is good.
     pub(crate) fn print<E: Sink>(&self, err: &mut E)
-        ensures { Says (line_of self.now) (E.written err.old) (E.written err.new) (E.faults err.old) (E.faults err.new) }
+        ensures { Says (line_of self.now)
+            (E.written err.old) (E.written err.new) (E.faults err.old) (E.faults err.new) }
     {
         match self {
             End::Good => say(err, b""),

@@ -53,8 +53,8 @@ domain = [{name = \"a\", channels = 1}]\n\
 tile = [{at = 0, domains = [\"a\"]}]\n\
 range = [{tile = 0, first = 0x10, last = 0x1f}]\n";
 
-/// Runs the words over a description `d` and a trace `t`, and answers the status and what is on the output and the error
-/// stream.
+/// Runs the words over a description `d` and a trace `t`, and answers the status and what is on the output and the
+/// error stream.
 fn run(
     rt: &HostRuntime,
     words: &str,
