@@ -6,11 +6,11 @@ ghost use Rattle.noc_desc.specs.Document.{AreTexts};
 ghost use Rattle.desc_check.specs.Upgrade.{hosted_by, tile_of, hosting, domain_draft, range_draft, shape_of, upgrade_of};
 
 use noc_desc::{
-    Bytes, Draft, DraftDomain, DraftDomains, DraftRange, DraftRanges, DraftTile, DraftTiles, Names,
-    Nums,
+    Draft, DraftDomain, DraftDomains, DraftRange, DraftRanges, DraftTile, DraftTiles, Names, Nums,
 };
 use noc_model::Plan;
 use std::alloc::{AllocError, Global};
+use surf_base::Bytes;
 
 /// The word for the shape.
 fn shape_of(alloc: Global, plan: &Plan) -> Result<Bytes, AllocError>
