@@ -1,44 +1,12 @@
 //! One cycle of a domain that the tile hosts, with its driver.
 
-ghost use Rattle.std.specs.Prelude.{◌≡◌, ◌≢◌, ◌<◌, ℕ, length, true, IsSome};
-ghost use Rattle.noc_model.specs.Driver.{after_taken, after_got};
+ghost use Rattle.std.specs.Prelude.{◌≡◌, ◌≢◌, ◌<◌, ℕ, length};
 ghost use Rattle.tile_drive.specs.Seen.{seen_at};
 ghost use Rattle.cycle_sim.specs.OneTile.{next_one, driver_after, seen_one};
 
 use crate::tile::OneTile;
-use flit_word::Ejected;
 use noc_model::Plan;
-use tile_drive::{Drive, Seen};
-
-/// Tells the driver that a word was taken, if one was.
-fn tell_taken<D: Drive>(drive: &mut D, j: u32, cycle: u32, taken: bool)
-    requires there { j < D.count drive.old }
-    requires offered { taken ≡ true → IsSome ((D.driver drive.old).offer j (D.state drive.old j) cycle) }
-    ensures count { D.count drive.new ≡ D.count drive.old }
-    ensures driver { D.driver drive.new ≡ D.driver drive.old }
-    ensures state { D.state drive.new j ≡ after_taken (D.driver drive.old) j (D.state drive.old j) cycle taken }
-    ensures others { (k : ℕ) → k ≢ j → D.state drive.new k ≡ D.state drive.old k }
-{
-    if taken {
-        drive.taken(j, cycle);
-    }
-}
-
-/// Tells the driver what was got, if anything was.
-fn tell_got<D: Drive>(drive: &mut D, j: u32, cycle: u32, hears: bool, flit: Option<Ejected>)
-    requires there { j < D.count drive.old }
-    requires heard { hears ≡ true → (D.driver drive.old).hears j (D.state drive.old j) cycle ≡ true }
-    ensures count { D.count drive.new ≡ D.count drive.old }
-    ensures driver { D.driver drive.new ≡ D.driver drive.old }
-    ensures state { D.state drive.new j ≡ after_got (D.driver drive.old) j (D.state drive.old j) cycle hears flit }
-    ensures others { (k : ℕ) → k ≢ j → D.state drive.new k ≡ D.state drive.old k }
-{
-    if let Some(flit) = flit {
-        if hears {
-            drive.got(j, cycle, flit);
-        }
-    }
-}
+use tile_drive::{Drive, Seen, tell_got, tell_taken};
 
 /// One cycle of domain `d`, whose attachment is number `j`.
 pub(crate) fn step_attached<D: Drive>(

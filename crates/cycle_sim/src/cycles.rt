@@ -1,6 +1,7 @@
 //! The run of a network, and its events.
 
 ghost use Rattle.std.specs.Prelude.{◌≡◌, ◌<◌, ◌≤◌, ◌++◌, ℕ, List, length, slice_get, filter, ◌==◌, true, Some, OnOk, IfOk};
+ghost use Rattle.noc_model.specs.Limits.{most_cycles};
 ghost use Rattle.noc_model.specs.declared.Event.{Event};
 ghost use Rattle.noc_model.specs.declared.Host.{Host};
 ghost use Rattle.noc_model.specs.declared.Kind.TheVariants.{Take, Drop};
@@ -121,7 +122,7 @@ pub fn run<D: Drive>(
     cycles: u32,
 ) -> Result<Events, AllocError>
     requires start { net.old.cycle ≡ 0 }
-    requires few { cycles ≤ 65536 }
+    requires few { cycles ≤ most_cycles }
     requires count { D.count drive.old ≡ length net.old.plan.hosts }
     ensures plan { net.new.plan ≡ net.old.plan }
     ensures cycle { IfOk result (λ events. net.new.cycle ≡ cycles) }

@@ -1,6 +1,7 @@
 //! The network: its tile, and what it keeps for each domain.
 
 ghost use Rattle.std.specs.Prelude.{◌≡◌, ◌<◌, ◌≤◌, ◌+◌, ℕ, List, length, slice_get, Some, IfOk, pos};
+ghost use Rattle.noc_model.specs.Limits.{most_cycles};
 ghost use Rattle.noc_model.specs.declared.Host.{Host};
 ghost use Rattle.noc_model.specs.Run.{State, start, step};
 ghost use Rattle.noc_model.specs.Driver.{driven, next_state};
@@ -29,13 +30,14 @@ impl Model for Net {
     ghost Value = { Kept };
 
     ghost use Rattle.std.specs.Prelude.{◌≡◌, ◌≤◌, ℕ, length};
+    ghost use Rattle.noc_model.specs.Limits.{most_cycles};
     ghost use Rattle.cycle_sim.specs.Net.{IsBuilt, one_at};
     ghost use Rattle.cycle_sim.specs.OneTile.{start_one};
 
     ghost view = { λ a. record { plan = a.plan; cycle = a.cycle; ones = a.ones.items } };
 
     // In cycle 0 each domain is in the start.
-    ghost invariant = { λ a. IsBuilt a.plan × (length a.ones.items ≡ length a.plan.domains) × (a.cycle ≤ 65536)
+    ghost invariant = { λ a. IsBuilt a.plan × (length a.ones.items ≡ length a.plan.domains) × (a.cycle ≤ most_cycles)
         × (a.cycle ≡ 0 → (d : ℕ) → one_at a.ones.items d ≡ start_one) };
 }
 
@@ -67,7 +69,7 @@ impl Net {
         })
     }
 
-    /// Gives a caller's proof that a network in cycle 0 is in the start. It does nothing.
+    /// Lets callers' proofs use that a network in cycle 0 is in the start. It does nothing.
     pub fn known(&self)
         ensures { self.now.cycle ≡ 0 → (d : ℕ) → Shows self.now d (start self.now.plan) }
     {
@@ -91,7 +93,7 @@ impl Net {
     /// One cycle: each domain's state goes on as if the domain were alone, the driver is told what was taken and got, and
     /// what was seen is kept. Takes no memory.
     pub fn step<D: Drive>(&mut self, drive: &mut D, seen: &mut Seen)
-        requires cycle { self.old.cycle < 65536 }
+        requires cycle { self.old.cycle < most_cycles }
         requires count { D.count drive.old ≡ length self.old.plan.hosts }
         requires seen { length seen.old ≡ length self.old.plan.hosts }
         ensures plan { self.new.plan ≡ self.old.plan }

@@ -1,7 +1,7 @@
 //! A tile that is alone, for one domain with one channel.
 
 ghost use Rattle.std.specs.Prelude.{◌≡◌, ◌<◌, ◌≤◌, ◌++◌, ◌&&◌, ◌||◌, List, [], ◌∷◌, length, drop, IfOk, IsSome, if◌then◌else◌, None, option_to_list, vec_len, vec_capacity};
-ghost use Rattle.noc_model.specs.Step.{is_ready_packet, goes_to, entry, next_packet, is_dropped, front, one_if, next_ejected, with_channel};
+ghost use Rattle.noc_model.specs.Step.{is_ready_packet, entry, next_packet, is_dropped, front, one_if, next_ejected, with_channel};
 ghost use Rattle.noc_model.specs.Events.{ejected_of};
 ghost use Rattle.cycle_sim.specs.OneTile.{next_one, start_one, taken_word, leaves_one, next_claim, is_open_claim, has_front, is_sent};
 
@@ -9,6 +9,7 @@ use flit_word::{Ejected, Flit, Offer};
 use noc_model::{Packet, Plan};
 use std::alloc::{AllocError, Global};
 use std::marker::Model;
+use tile_iface::{ejected_of, entry, is_dropped, is_ready_packet, next_packet};
 
 /// The claim of the channel on the output.
 #[derive(Clone, Copy)]
@@ -58,55 +59,6 @@ fn advance(queue: &mut Vec<Flit>, leaves: bool, enters: Option<Flit>)
     }
     if let Some(flit) = enters {
         queue.push(flit).unwrap();
-    }
-}
-
-/// Where the packet of a word goes; nothing where it is dropped.
-fn goes_to(plan: &Plan, d: u32, packet: Packet, word: Offer) -> Option<u32>
-    ensures { result ≡ goes_to plan.now d packet word }
-{
-    match packet {
-        Packet::Between => plan.lookup(d, word.address),
-        Packet::Passing { dest } => Some(dest),
-        Packet::Dropping => None,
-    }
-}
-
-/// The flit that a word enters as.
-fn entry(plan: &Plan, d: u32, packet: Packet, word: Option<Offer>) -> Option<Flit>
-    ensures { result ≡ entry plan.now d packet word }
-{
-    let word = word?;
-    let dest = goes_to(plan, d, packet, word)?;
-    Some(Flit {
-        head: matches!(packet, Packet::Between),
-        tail: word.last,
-        dest,
-        payload: word.payload,
-    })
-}
-
-/// The packet after a word.
-fn next_packet(plan: &Plan, d: u32, packet: Packet, word: Option<Offer>) -> Packet
-    ensures { result ≡ next_packet plan.now d packet word }
-{
-    match word {
-        None => packet,
-        Some(word) if word.last => Packet::Between,
-        Some(word) => match goes_to(plan, d, packet, word) {
-            Some(dest) => Packet::Passing { dest },
-            None => Packet::Dropping,
-        },
-    }
-}
-
-/// Whether a word is dropped.
-fn is_dropped(plan: &Plan, d: u32, packet: Packet, word: Option<Offer>) -> bool
-    ensures { result ≡ is_dropped plan.now d packet word }
-{
-    match word {
-        None => false,
-        Some(word) => goes_to(plan, d, packet, word).is_none(),
     }
 }
 
@@ -173,10 +125,7 @@ impl OneTile {
     pub(crate) fn is_open(&self, buffer: u32) -> bool
         ensures { result ≡ is_ready_packet self.now.packet (length self.now.queue) buffer }
     {
-        match self.packet {
-            Packet::Dropping => true,
-            _ => self.queue.as_slice().len() < buffer as usize,
-        }
+        is_ready_packet(self.packet, self.queue.len(), buffer)
     }
 
     /// Whether a word that was taken in the cycle before was dropped.
@@ -190,14 +139,7 @@ impl OneTile {
     pub(crate) fn ejected(&self) -> Option<Ejected>
         ensures { result ≡ ejected_of self.now.ejected }
     {
-        match self.ejected {
-            Some(flit) => Some(Ejected {
-                head: flit.head,
-                tail: flit.tail,
-                payload: flit.payload,
-            }),
-            None => None,
-        }
+        ejected_of(self.ejected)
     }
 
     /// Whether a flit leaves the list in this cycle.

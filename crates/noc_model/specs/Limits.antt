@@ -36,3 +36,7 @@ most_places = 24576
 -- slots of the wave schedule
 abbrev pub most_slots : ℕ
 most_slots = 64
+
+-- cycles of a run
+abbrev pub most_cycles : ℕ
+most_cycles = 65536

@@ -30,7 +30,7 @@ tiles p = product p.dims
 abbrev pub ports : Plan → ℕ
 ports p = 1 + 2 * length p.dims
 
--- the cycles from a flit's way onto a link to its way onto the next, where it waits for nothing
+-- the cycles from entering one link to entering the next, unstalled
 abbrev pub hop : Plan → ℕ
 hop p = p.stages + 3
 

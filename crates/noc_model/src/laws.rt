@@ -31,8 +31,8 @@ pub fn wave()
         → owner p m port (t +ℤ pos (hop p)) ≡ owner p n port t }
 {}
 
-/// Along every route from a local port the channel rank rises from each link to the next, so no channels wait for each other
-/// in a circle.
+/// Along every route from a local port the channel rank rises from each link to the next, so the channels can't deadlock: the
+/// channel dependency graph is acyclic.
 pub fn rank_rises()
     ensures { (p : Plan) (dest n k m : ℕ) (a b : Stop) → IsSound p → stop_at p dest n k ≡ Some a → next_stop p dest a ≡ Some b
         → neighbour p b.tile (out_of p dest b) ≡ Some m → out_rank p dest a < out_rank p dest b }

@@ -26,3 +26,6 @@ pub const MOST_PLACES: u32 = 24_576;
 
 /// Slots of the wave schedule.
 pub const MOST_SLOTS: usize = 64;
+
+/// Cycles of a run.
+pub const MOST_CYCLES: u32 = 65_536;

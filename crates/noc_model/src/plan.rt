@@ -2,6 +2,7 @@
 
 ghost use Rattle.std.specs.Prelude.{◌≡◌, ◌≢◌, ◌<◌, ◌≤◌, ℕ, length, slice_index, slice_get, slice_set, option_map, Some, is_some, IfSome, IfNone, IfOk};
 ghost use Rattle.noc_model.specs.Plan.{product, tiles, ports, hop, channels, classes, name_of, places, hosts, attach_of, lookup};
+ghost use Rattle.noc_model.specs.Limits.{most_tiles, most_buffer, most_domains};
 ghost use Rattle.noc_model.specs.Sound.{AreSides, HaveChannels};
 ghost use Rattle.noc_model.specs.Place.{side, coord, coords_in, tile_in, neighbour};
 
@@ -48,9 +49,9 @@ impl Parts {
     pub fn places(&self) -> u32
         requires dims { length self.now.dims.items ≤ 3 }
         requires sides { AreSides self.now.dims.items }
-        requires tiles { product self.now.dims.items ≤ 256 }
-        requires buffer { self.now.buffer ≤ 16 }
-        requires domains { length self.now.domains.items ≤ 16 }
+        requires tiles { product self.now.dims.items ≤ most_tiles }
+        requires buffer { self.now.buffer ≤ most_buffer }
+        requires domains { length self.now.domains.items ≤ most_domains }
         requires channels { HaveChannels self.now.domains.items }
         ensures { result ≡ places (plan_of self.now) }
     {
@@ -92,7 +93,7 @@ impl Plan {
         Plan { parts }
     }
 
-    /// Gives a caller's proof what holds of every plan. It does nothing.
+    /// Lets callers' proofs use the invariant of a plan. It does nothing.
     pub fn known(&self)
         ensures { IsSound self.now }
     {
@@ -118,7 +119,7 @@ impl Plan {
         requires { i < length self.now.dims }
         ensures value { result ≡ side self.now i }
         ensures some { 1 ≤ result }
-        ensures few { result ≤ 16 }
+        ensures few { result ≤ most_domains }
     {
         self.parts.dims[i as usize]
     }
@@ -189,7 +190,7 @@ impl Plan {
         self.parts.places()
     }
 
-    /// The cycles from a flit's way onto a link to its way onto the next, where it waits for nothing.
+    /// The cycles from entering one link to entering the next, unstalled.
     pub fn hop(&self) -> u32
         ensures { result ≡ hop self.now }
     {

@@ -10,7 +10,7 @@ ghost use Rattle.solo_run.specs.Solo.{tile_of, in_of};
 ghost use Rattle.solo_run.specs.Parts.{IsHere, IsFit, stepped, channel_in, by_rows};
 
 use crate::allocate::{is_place, taken_channel, winner};
-use crate::attach::{entry, word_in};
+use crate::attach::word_in;
 use crate::channel::Channel;
 use crate::fed::SoloFed;
 use crate::sizes::{Here, lanes, place, places, ports, spot_of};
@@ -20,6 +20,7 @@ use dor_routes::route;
 use flit_word::{Flit, LinkFlit};
 use noc_model::{Plan, Stage};
 use std::alloc::{AllocError, Global};
+use tile_iface::entry;
 
 /// Whether the front of a list is a tail.
 fn is_tail_front(flits: &[Flit]) -> bool

@@ -1,12 +1,13 @@
 //! A tile after a step, made anew from the old one.
 
 ghost use Rattle.std.specs.Prelude.{◌≡◌, ◌<◌, IfOk};
+ghost use Rattle.noc_model.specs.Limits.{most_cycles};
 ghost use Rattle.noc_model.specs.Step.{next_ejected};
 ghost use Rattle.solo_run.specs.Solo.{tile_of, in_of};
 ghost use Rattle.solo_run.specs.Parts.{IsHere, IsFit, stepped};
 ghost use Rattle.solo_run.specs.Same.{IsSame};
 
-use crate::attach::{entry, is_dropped, next_current, next_packet, word_in};
+use crate::attach::{next_current, word_in};
 use crate::fed::SoloFed;
 use crate::inputs::next_channels;
 use crate::outputs::{next_outputs, next_rows};
@@ -17,6 +18,7 @@ use crate::tile::SoloTile;
 use flit_word::{Flit, LinkFlit};
 use noc_model::Plan;
 use std::alloc::{AllocError, Global};
+use tile_iface::{entry, is_dropped, next_packet};
 
 /// The ejection place after the step.
 fn next_ejected(sent: Option<LinkFlit>, hears: bool, old: Option<Flit>) -> Option<Flit>
@@ -38,7 +40,7 @@ pub(crate) fn next_tile(
 ) -> Result<SoloTile, AllocError>
     requires here { IsHere plan.now here }
     requires fit { IsFit plan.now here (tile_of plan.now here.domain tile.now) }
-    requires cycle { here.cycle < 65536 }
+    requires cycle { here.cycle < most_cycles }
     ensures { IfOk result (λ x. IsSame plan.now here.domain (tile_of plan.now here.domain x)
         (stepped plan.now here (tile_of plan.now here.domain tile.now) (in_of plan.now here.domain fed.now))) }
 {

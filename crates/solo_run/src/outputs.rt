@@ -1,6 +1,7 @@
 //! The outputs and their links after a step, made anew from the old ones.
 
 ghost use Rattle.std.specs.Prelude.{◌≡◌, ◌<◌, ◌≤◌, ◌+◌, ◌-◌, ◌&&◌, ◌||◌, not, IfOk};
+ghost use Rattle.noc_model.specs.Limits.{most_cycles};
 ghost use Rattle.noc_model.specs.Plan.{ports, lanes};
 ghost use Rattle.noc_model.specs.Step.{is_on, is_tail_on, one_if};
 ghost use Rattle.solo_run.specs.Solo.{tile_of, in_of};
@@ -64,7 +65,7 @@ fn next_output(
     requires fit { IsFit plan.now here (tile_of plan.now here.domain tile.now) }
     requires out { out < ports plan.now }
     requires channel { channel < lanes plan.now here.domain }
-    requires cycle { here.cycle < 65536 }
+    requires cycle { here.cycle < most_cycles }
     ensures { result ≡ output_in (stepped plan.now here (tile_of plan.now here.domain tile.now) (in_of plan.now here.domain fed.now)) out channel }
 {
     plan.known();
@@ -89,7 +90,7 @@ pub(crate) fn next_outputs(
 ) -> Result<Vec<OutChannel>, AllocError>
     requires here { IsHere plan.now here }
     requires fit { IsFit plan.now here (tile_of plan.now here.domain tile.now) }
-    requires cycle { here.cycle < 65536 }
+    requires cycle { here.cycle < most_cycles }
     ensures { IfOk result (λ v. v.items ≡ by_rows (ports plan.now) (lanes plan.now here.domain)
         (output_in (stepped plan.now here (tile_of plan.now here.domain tile.now) (in_of plan.now here.domain fed.now)))) }
 {

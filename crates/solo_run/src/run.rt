@@ -1,6 +1,7 @@
 //! The run.
 
 ghost use Rattle.std.specs.Prelude.{◌≡◌, ◌<◌, ◌≤◌, ◌++◌, ℕ, length, pos, IfOk, OnOk};
+ghost use Rattle.noc_model.specs.Limits.{most_cycles};
 ghost use Rattle.noc_model.specs.Plan.{tiles};
 ghost use Rattle.noc_model.specs.Run.{start, step};
 ghost use Rattle.noc_model.specs.Events.{cycle_events};
@@ -42,7 +43,7 @@ fn one_cycle<D: Drive>(
     requires there { d < length plan.now.domains }
     requires all { length net.now ≡ tiles plan.now }
     requires count { D.count drive.old ≡ length plan.now.hosts }
-    requires cycle { cycle < 65536 }
+    requires cycle { cycle < most_cycles }
     requires fit { (n : ℕ) → n < tiles plan.now
         → IsFit plan.now (record { domain = d; tile = n; cycle = cycle }) (state_of plan.now d net.now n) }
     ensures events { OnOk result (events.new.items ≡ events.old.items
@@ -69,7 +70,7 @@ pub fn solo_events<D: Drive>(
     cycles: u32,
 ) -> Result<Vec<Event>, AllocError>
     requires there { d < length plan.now.domains }
-    requires few { cycles ≤ 65536 }
+    requires few { cycles ≤ most_cycles }
     requires count { D.count drive.old ≡ length plan.now.hosts }
     ensures events { IfOk result (λ v. v.items ≡ driven_events plan.now d (D.driver drive.old) cycles 0 (start plan.now) (D.state drive.old)) }
     ensures count { D.count drive.new ≡ D.count drive.old }

@@ -11,24 +11,11 @@ ghost use Rattle.solo_run.specs.Parts.{IsHere};
 use crate::attach::is_open;
 use crate::sizes::Here;
 use crate::tile::SoloTile;
-use flit_word::{Ejected, Flit, Offer};
+use flit_word::{Ejected, Offer};
 use noc_model::{Event, Kind, Plan};
 use std::alloc::AllocError;
-use tile_drive::Drive;
-
-/// What an attachment shows of a flit.
-fn ejected_of(flit: Option<Flit>) -> Option<Ejected>
-    ensures { result ≡ ejected_of flit }
-{
-    match flit {
-        Some(flit) => Some(Ejected {
-            head: flit.head,
-            tail: flit.tail,
-            payload: flit.payload,
-        }),
-        None => None,
-    }
-}
+use tile_drive::{Drive, tell_got, tell_taken};
+use tile_iface::ejected_of;
 
 /// Adds an event at a tile.
 fn add(events: &mut Vec<Event>, here: Here, kind: Kind) -> Result<(), AllocError>
@@ -165,36 +152,6 @@ pub(crate) fn add_events<D: Drive>(
         add_tile(events, plan, here, &net[tile as usize], drive)?;
     }
     Ok(())
-}
-
-/// Tells the driver that a word was taken, if one was.
-fn tell_taken<D: Drive>(drive: &mut D, j: u32, cycle: u32, taken: bool)
-    requires there { j < D.count drive.old }
-    requires offered { taken ≡ true → IsSome ((D.driver drive.old).offer j (D.state drive.old j) cycle) }
-    ensures count { D.count drive.new ≡ D.count drive.old }
-    ensures driver { D.driver drive.new ≡ D.driver drive.old }
-    ensures state { D.state drive.new j ≡ after_taken (D.driver drive.old) j (D.state drive.old j) cycle taken }
-    ensures others { (k : ℕ) → k ≢ j → D.state drive.new k ≡ D.state drive.old k }
-{
-    if taken {
-        drive.taken(j, cycle);
-    }
-}
-
-/// Tells the driver what was got, if anything was.
-fn tell_got<D: Drive>(drive: &mut D, j: u32, cycle: u32, hears: bool, flit: Option<Ejected>)
-    requires there { j < D.count drive.old }
-    requires heard { hears ≡ true → (D.driver drive.old).hears j (D.state drive.old j) cycle ≡ true }
-    ensures count { D.count drive.new ≡ D.count drive.old }
-    ensures driver { D.driver drive.new ≡ D.driver drive.old }
-    ensures state { D.state drive.new j ≡ after_got (D.driver drive.old) j (D.state drive.old j) cycle hears flit }
-    ensures others { (k : ℕ) → k ≢ j → D.state drive.new k ≡ D.state drive.old k }
-{
-    if let Some(flit) = flit {
-        if hears {
-            drive.got(j, cycle, flit);
-        }
-    }
 }
 
 /// Tells the driver what attachment `j` of the domain took and got.

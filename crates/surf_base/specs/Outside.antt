@@ -2,9 +2,9 @@
 use Rattle.std.specs.Prelude.{◌≡◌, ℕ, ◌<◌, ◌≤◌, ◌⊎◌, ◌↔◌, List, [], ◌++◌, length, take, drop, Option, Some}
 use Rattle.std.specs.Option.{option_map}
 
--- what is told of a name: nothing, that no file has it, or the bytes that its file holds
+-- what is observed of a name: nothing, that no file has it, or the bytes that its file holds
 pub data Held : Type 0 where
-  Untold : Held
+  Unobserved : Held
   Absent : Held
   Holds : (bytes : List ℕ) → Held
 
@@ -12,18 +12,18 @@ pub data Held : Type 0 where
 abbrev pub Rose : ℕ → ℕ → Type 0
 Rose old new = (old < new) ⊎ (18446744073709551615 ≤ new)
 
--- what a sink has after more bytes, where it tells its bytes
+-- what a sink has after more bytes, where its bytes are observed
 abbrev pub appended : Option (List ℕ) → List ℕ → Option (List ℕ)
 appended written bytes = option_map (λ had. had ++ bytes) written
 
--- a read put the first `n` of the bytes that were left in front of the buffer, and left the others, where they are told
+-- a read put the first `n` of the bytes that were left in front of the buffer, and left the others, where they are observed
 abbrev pub HandsOn : ℕ → List ℕ → Option (List ℕ) → Option (List ℕ) → Type 0
 HandsOn n buf old new = (bytes : List ℕ) → old ≡ Some bytes → (n ≤ length bytes) × (take n buf ≡ take n bytes) × (new ≡ Some (drop n bytes))
 
--- a read gave no bytes exactly where none were left, where they are told
+-- a read gave no bytes exactly where none were left, where they are observed
 abbrev pub EndsAt : ℕ → Option (List ℕ) → Type 0
 EndsAt n left = (bytes : List ℕ) → left ≡ Some bytes → ((n ≡ 0) ↔ (bytes ≡ []))
 
--- a sink has got a prefix of these bytes, where it tells its bytes
+-- a sink has got a prefix of these bytes, where its bytes are observed
 abbrev pub GotPrefix : Option (List ℕ) → Option (List ℕ) → List ℕ → Type 0
 GotPrefix old new bytes = (k : ℕ) × (k ≤ length bytes) × (new ≡ appended old (take k bytes))

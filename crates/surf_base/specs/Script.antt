@@ -6,7 +6,7 @@ use Rattle.surf_base.specs.declared.script.Script.{Script}
 abbrev pub raised : ℕ → ℕ
 raised count = min (count + 1) 18446744073709551615
 
--- the next call is one of those that are told to fail
+-- the next call is one of those that the script lets fail
 abbrev pub FailsNext : Script → Type 0
 FailsNext script = Contains script.fails.items (raised script.calls)
 

@@ -19,6 +19,6 @@ abbrev pub UnlessTooLong : {T : Type 0} → Result T TakeFault → Type 0 → Ty
 UnlessTooLong (Err TooLong) P = Unit {0}
 UnlessTooLong _ P = P
 
--- the whole content of a file that was read so far, where what is left of it is told
+-- the whole content of a file that was read so far, where what is left of it is observed
 abbrev pub content_of : List ℕ → Option (List ℕ) → Option (List ℕ)
 content_of got left = option_map (λ rest. got ++ rest) left

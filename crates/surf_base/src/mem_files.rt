@@ -13,7 +13,7 @@ struct MemFile {
     content: Bytes,
 }
 
-/// Files over memory, for tests: calls fail where they are told to.
+/// Files over memory, for tests: calls fail where a script says so.
 ///
 /// Calls of `open_name` and `read` count from 1 together. A name that was not put is absent.
 #[derive(Drop)]
@@ -122,7 +122,7 @@ impl Files for MemFiles {
         ensures faults { self.old.script.faults ≤ self.new.script.faults }
         ensures taken { self.new.taken ≡ 0 }
         ensures opened { self.new.opened ≡ is_ok result }
-        ensures told { OnOk result ((bytes : List ℕ) →
+        ensures observed { OnOk result ((bytes : List ℕ) →
             held_of self.old name.now ≡ Holds bytes → left_of self.new ≡ Some bytes) }
         ensures failed { OnErr result (Rose self.old.script.faults self.new.script.faults
             ⊎ (held_of self.old name.now ≡ Absent)) }
@@ -157,8 +157,8 @@ impl Files for MemFiles {
         ensures opened { self.new.opened ≡ true }
         ensures count { IfOk result (λ n. (n ≤ length buf.old)
             × (self.new.taken ≡ self.old.taken + n)) }
-        ensures told { IfOk result (λ n. HandsOn n buf.new (left_of self.old) (left_of self.new)) }
-        ensures untold { left_of self.old ≡ None → left_of self.new ≡ None }
+        ensures observed { IfOk result (λ n. HandsOn n buf.new (left_of self.old) (left_of self.new)) }
+        ensures unobserved { left_of self.old ≡ None → left_of self.new ≡ None }
         ensures end { IfOk result (λ n. EndsAt n (left_of self.old)) }
         ensures err { OnErr result (Rose self.old.script.faults self.new.script.faults
             × (self.new.taken ≡ self.old.taken) × (left_of self.new ≡ left_of self.old)) }

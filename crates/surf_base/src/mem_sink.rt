@@ -6,7 +6,7 @@ use crate::outside::{Failed, Sink};
 use crate::script::Script;
 use std::alloc::{AllocError, Global};
 
-/// A sink over memory, for tests: it has room for so many bytes, and fails where it is told to.
+/// A sink over memory, for tests: it has room for so many bytes, and fails where a script says so.
 #[derive(Drop)]
 pub struct MemSink {
     got: Vec<u8>,

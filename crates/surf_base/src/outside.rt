@@ -26,14 +26,14 @@ pub trait Files {
         ensures faults { faults self.old ≤ faults self.new }
         ensures taken { taken self.new ≡ 0 }
         ensures opened { opened self.new ≡ is_ok result }
-        ensures told { OnOk result ((bytes : List ℕ) →
+        ensures observed { OnOk result ((bytes : List ℕ) →
             held self.old name.now ≡ Holds bytes → left self.new ≡ Some bytes) }
         ensures failed { OnErr result (Rose (faults self.old) (faults self.new)
             ⊎ (held self.old name.now ≡ Absent)) }
         ensures absent { held self.old name.now ≡ Absent → IsErr result };
 
     /// Puts the next bytes of the opened file in front of `buf`, and answers how many: 0 only at the
-    /// file's end, where its content is told.
+    /// file's end, where its content is observed.
     fn read(&mut self, buf: &mut [u8]) -> Result<usize, Failed>
         requires opened { opened self.old ≡ true }
         requires room { 0 < length buf.old }
@@ -43,8 +43,8 @@ pub trait Files {
         ensures opened { opened self.new ≡ true }
         ensures count { IfOk result (λ n. (n ≤ length buf.old)
             × (taken self.new ≡ taken self.old + n)) }
-        ensures told { IfOk result (λ n. HandsOn n buf.new (left self.old) (left self.new)) }
-        ensures untold { left self.old ≡ None → left self.new ≡ None }
+        ensures observed { IfOk result (λ n. HandsOn n buf.new (left self.old) (left self.new)) }
+        ensures unobserved { left self.old ≡ None → left self.new ≡ None }
         ensures end { IfOk result (λ n. EndsAt n (left self.old)) }
         ensures err { OnErr result (Rose (faults self.old) (faults self.new)
             × (taken self.new ≡ taken self.old) × (left self.new ≡ left self.old)) };
@@ -52,7 +52,7 @@ pub trait Files {
 
 /// Something that bytes are appended to.
 ///
-/// `written` are the bytes so far, where they are told, and `faults` counts failures and never falls.
+/// `written` are the bytes so far, where they are observed, and `faults` counts failures and never falls.
 pub trait Sink {
     ghost written: { Self → Option (List ℕ) };
 

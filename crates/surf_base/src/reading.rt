@@ -12,7 +12,7 @@ pub enum TakeFault {
     Failed,
     /// The file is longer than the limit.
     TooLong,
-    /// Memory was wanting.
+    /// Memory ran out.
     Memory(AllocError),
 }
 
@@ -50,8 +50,8 @@ fn read_some<F: Files>(files: &mut F, piece: &mut [u8], most: usize) -> Result<u
     ensures opened { F.opened files.new ≡ true }
     ensures count { IfOk result (λ n. (n ≤ length piece.old)
         × (n ≤ most) × (F.taken files.new ≡ F.taken files.old + n)) }
-    ensures told { IfOk result (λ n. HandsOn n piece.new (F.left files.old) (F.left files.new)) }
-    ensures untold { F.left files.old ≡ None → F.left files.new ≡ None }
+    ensures observed { IfOk result (λ n. HandsOn n piece.new (F.left files.old) (F.left files.new)) }
+    ensures unobserved { F.left files.old ≡ None → F.left files.new ≡ None }
     ensures end { IfOk result (λ n. EndsAt n (F.left files.old)) }
     ensures err { OnErr result (Rose (F.faults files.old) (F.faults files.new)
         × (F.taken files.new ≡ F.taken files.old)) }

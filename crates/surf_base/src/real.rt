@@ -1,5 +1,5 @@
 ghost use Rattle.std.specs.Prelude.{◌≡◌, None, is_some};
-ghost use Rattle.surf_base.specs.Outside.{Untold};
+ghost use Rattle.surf_base.specs.Outside.{Unobserved};
 
 use crate::outside::{Failed, Files, Sink};
 use std::{fs, io, rt};
@@ -30,7 +30,7 @@ impl<'a, R: rt::Files> RealFiles<'a, R> {
 }
 
 impl<'a, R: rt::Files> Files for RealFiles<'a, R> {
-    ghost held = { λ _ _. Untold };
+    ghost held = { λ _ _. Unobserved };
 
     ghost opened = { λ files. is_some files.file };
 

@@ -26,10 +26,10 @@ impl Script {
         })
     }
 
-    /// Counts a call, and says whether it is told to fail.
+    /// Counts a call, and says whether it fails.
     pub(crate) fn next_fails(&mut self) -> bool
         ensures counted { self.new ≡ record self.old { calls = raised self.old.calls } }
-        ensures told { IsTrue result ↔ FailsNext self.old }
+        ensures fails { IsTrue result ↔ FailsNext self.old }
     {
         self.calls = self.calls.saturating_add(1);
         self.fails.contains(&self.calls)

@@ -3,7 +3,7 @@ use Rattle.std.proofs.Common.{◌⊎◌, inl, inr, ◌≡◌, ◌≢◌, ℕ, �
 use Rattle.std.specs.Prelude.{nat_le, replicate, Option, Some, None, Result, Ok, Err, IfOk, IfErr, IsErrOf, vec_len}
 use Rattle.std.proofs.lemmas.Bool.Decides.{nat_tests}
 use Rattle.std.proofs.lemmas.List.{length-replicate}
-use Rattle.surf_base.specs.Outside.{Held, Untold, Absent, Holds, Rose}
+use Rattle.surf_base.specs.Outside.{Held, Unobserved, Absent, Holds, Rose}
 use Rattle.surf_base.specs.Taken.{OnFailed, OnTooLong, UnlessTooLong}
 use Rattle.surf_base.specs.declared.reading.TakeFault.{TakeFault}
 use Rattle.surf_base.specs.declared.reading.TakeFault.TheVariants as fault
@@ -29,7 +29,7 @@ read-long kind bytes long next =
     ap (λ b. if b then next bytes else Stops TooLong) past
 
 may-hold : (held : Held) (bytes : List ℕ) → held ≢ Absent → ((told : List ℕ) → held ≡ Holds told → bytes ≡ told) → MayHold held (Some bytes)
-may-hold Untold bytes present same = tt
+may-hold Unobserved bytes present same = tt
 may-hold Absent bytes present same = absurd (present refl)
 may-hold (Holds told) bytes present same = ap Some (same told refl)
 
@@ -47,13 +47,13 @@ file-got file held held' a b t (Err f) stays counts count within content absent 
 
 -- what a file of which this is observed may hold
 some-content : Held → Option (List ℕ)
-some-content Untold = None
+some-content Unobserved = None
 some-content Absent = None
 some-content (Holds bytes) = Some bytes
 
 may-some : (held : Held) → MayHold held (some-content held)
 unfolding some-content
-may-some Untold = tt
+may-some Unobserved = tt
 may-some Absent = refl
 may-some (Holds bytes) = refl
 
@@ -64,7 +64,7 @@ record Long (kind : FileKind) (held : Held) : Type 0 where
   meant : (next : List ℕ → Outcome) → with_file kind content next ≡ Stops TooLong
 
 long-content : (kind : FileKind) (held : Held) → held ≢ Absent → ((told : List ℕ) → held ≡ Holds told → limit_of kind < length told) → Long kind held
-long-content kind Untold present longer = record {
+long-content kind Unobserved present longer = record {
   content = Some (replicate (limit_of kind + 1) 0);
   observed = tt;
   meant = read-long kind (replicate (limit_of kind + 1) 0) (omega (arith, length-replicate {A = ℕ} (limit_of kind + 1) 0));

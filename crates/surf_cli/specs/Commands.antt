@@ -3,7 +3,8 @@ use Rattle.std.specs.Prelude.{ℕ, List, [], ◌∷◌, codes, if◌then◌else�
 use Rattle.std.specs.Str.{bytes_eq}
 use Rattle.surf_base.specs.Numbers.{decimal_in}
 use Rattle.surf_cli.specs.declared.files.FileKind.TheVariants.{Description, Trace}
-use Rattle.surf_cli.specs.Limits.{table_cycles, run_cycles}
+use Rattle.noc_model.specs.Limits.{most_cycles}
+use Rattle.surf_cli.specs.Limits.{table_cycles}
 use Rattle.surf_cli.specs.Files.{NamedFile, file_of}
 use Rattle.surf_cli.specs.Jobs.{Schedule, Check, Routes, Simulate, Upgrade, Command, command}
 
@@ -25,7 +26,7 @@ routes_words _ = None
 -- simulate DESC TRACE CYCLES
 abbrev pub simulate_words : List (List ℕ) → Option Command
 simulate_words (description ∷ trace ∷ cycles ∷ []) =
-    option_map (λ n. command (file_of Description description ∷ file_of Trace trace ∷ []) (Simulate n)) (decimal_in run_cycles cycles)
+    option_map (λ n. command (file_of Description description ∷ file_of Trace trace ∷ []) (Simulate n)) (decimal_in most_cycles cycles)
 simulate_words _ = None
 
 -- upgrade DESC

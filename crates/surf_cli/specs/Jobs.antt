@@ -1,6 +1,6 @@
 -- What a command asks for: its files, and what is done with what they hold.
 use Rattle.std.specs.Prelude.{ℕ, ◌≤◌, List}
-use Rattle.surf_cli.specs.Limits.{run_cycles}
+use Rattle.noc_model.specs.Limits.{most_cycles}
 use Rattle.surf_cli.specs.Files.{NamedFile}
 
 -- what is done with what the files hold
@@ -20,5 +20,5 @@ command files job = record { files = files; job = job }
 
 -- a run has at most so many cycles
 abbrev pub HasFewCycles : Job → Type 0
-HasFewCycles (Simulate cycles) = cycles ≤ run_cycles
+HasFewCycles (Simulate cycles) = cycles ≤ most_cycles
 HasFewCycles _ = Unit {0}

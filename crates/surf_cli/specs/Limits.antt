@@ -5,10 +5,6 @@ use Rattle.std.specs.Prelude.{ℕ}
 abbrev pub table_cycles : ℕ
 table_cycles = 4096
 
--- the most cycles of a run
-abbrev pub run_cycles : ℕ
-run_cycles = 65536
-
 -- the most bytes of a description
 abbrev pub description_limit : ℕ
 description_limit = 1048576

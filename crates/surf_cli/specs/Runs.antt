@@ -1,6 +1,6 @@
 -- What a run of a command says of the outside: files that are read, and a sink that is written to.
 use Rattle.std.specs.Prelude.{◌≡◌, ◌≢◌, ℕ, ◌+◌, ◌≤◌, ◌⊎◌, ◌↔◌, List, [], ◌∷◌, Option, Some, None}
-use Rattle.surf_base.specs.Outside.{Held, Untold, Absent, Holds, Rose, appended, GotPrefix}
+use Rattle.surf_base.specs.Outside.{Held, Unobserved, Absent, Holds, Rose, appended, GotPrefix}
 use Rattle.surf_cli.specs.declared.statuses.Status.{Status}
 use Rattle.surf_cli.specs.declared.statuses.End.{End}
 use Rattle.surf_cli.specs.declared.statuses.End.TheVariants.{Good, Usage, Refused, Read, Write, Memory, TooLong}
@@ -25,7 +25,7 @@ outside held taken file_faults written faults =
 
 -- a file, of which this is observed, may hold this; nothing where it is absent
 abbrev pub MayHold : Held → Option (List ℕ) → Type 0
-MayHold Untold content = Unit {0}
+MayHold Unobserved content = Unit {0}
 MayHold Absent content = content ≡ None
 MayHold (Holds bytes) content = content ≡ Some bytes
 

@@ -19,9 +19,6 @@ use crate::files::NamedFiles;
 use crate::statuses::End;
 use std::alloc::Global;
 
-/// The most cycles of a run.
-pub(crate) const RUN_CYCLES: u64 = 65_536;
-
 /// What is to be done with what the files of a command hold.
 #[derive(Clone, Copy)]
 pub(crate) enum Job {

@@ -3,6 +3,7 @@
 ghost use Rattle.std.specs.Prelude.{◌≡◌, ◌≤◌, IfOk};
 ghost use Rattle.surf_base.specs.Block.{Writes, stream};
 ghost use Rattle.cycle_sim.specs.Net.{IsBuilt};
+ghost use Rattle.noc_model.specs.Limits.{most_cycles};
 ghost use Rattle.surf_cli.specs.Simulate.{AreAlone, reports_of, events_of, reports_text};
 
 use cycle_sim::{Net, run};
@@ -23,7 +24,7 @@ pub(crate) struct Reports {
 /// The events of all domains in a run that the trace drives.
 fn simulate(alloc: Global, plan: &Plan, trace: &Trace, cycles: u32) -> Result<Events, AllocError>
     requires built { IsBuilt plan.now }
-    requires few { cycles ≤ 65536 }
+    requires few { cycles ≤ most_cycles }
     ensures { IfOk result (λ events. AreAlone plan.now events trace.now cycles) }
 {
     let mut drive = TraceDrive::new(alloc, plan, trace)?;
@@ -40,7 +41,7 @@ impl Reports {
         cycles: u32,
     ) -> Result<Reports, AllocError>
         requires built { IsBuilt plan }
-        requires few { cycles ≤ 65536 }
+        requires few { cycles ≤ most_cycles }
         ensures { IfOk result (λ reports. reports_of reports.plan (events_of reports.events)
             ≡ reports_text plan trace.now cycles) }
     {

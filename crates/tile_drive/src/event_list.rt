@@ -36,7 +36,7 @@ impl Events {
         }
     }
 
-    /// Gives a caller's proof that the events are in order. It does nothing.
+    /// Lets callers' proofs use that the events are in order. It does nothing.
     pub fn known(&self)
         ensures { AreInOrder self.now }
     {

@@ -30,7 +30,7 @@ unless (Some fault) es = None
 unfoldable pub trace_of : Plan → List ℕ → Option (List Entry)
 trace_of p bytes = unless (first_fault p bytes) (entries p (lines bytes))
 
--- the fault is want of memory, or P holds
+-- memory ran out, or P holds
 abbrev pub MemoryOr : TraceFault → Type 0 → Type 0
 MemoryOr (Memory refused) P = Unit {0}
 MemoryOr (Syntax n) P = P

@@ -1,12 +1,12 @@
 //! The line that tells a fault.
 
 ghost use Rattle.std.specs.Prelude.{◌≡◌, ◌≤◌, length, take, IfSome};
-ghost use Rattle.trace_read.specs.Line.{place_of, told, line_of};
+ghost use Rattle.trace_read.specs.Line.{place_of, printed, line_of};
 
 use crate::fault::TraceFault;
 use surf_base::{put_at, put_labelled_at};
 
-/// The number of a fault and its line; want of memory has neither.
+/// The number of a fault and its line; that memory ran out has neither.
 fn place_of(fault: &TraceFault) -> Option<(u64, u64)>
     ensures { result ≡ place_of fault.now }
 {
@@ -24,7 +24,7 @@ fn place_of(fault: &TraceFault) -> Option<(u64, u64)>
 /// Writes the line of a fault with this number and line.
 fn put_told(buf: &mut [u8], place: Option<(u64, u64)>) -> usize
     requires { 96 ≤ length buf.old }
-    ensures written { take result buf.new ≡ told place }
+    ensures written { take result buf.new ≡ printed place }
     ensures few { result ≤ 96 }
 {
     match place {
@@ -38,7 +38,7 @@ fn put_told(buf: &mut [u8], place: Option<(u64, u64)>) -> usize
 }
 
 /// Writes the line that tells a fault, with its LF, to the front of `buf`, and answers its length in bytes: `surf: trace
-/// fault N line L`. For want of memory it is `surf: no memory`.
+/// fault N line L`. Where memory ran out it is `surf: no memory`.
 pub fn fault_line(fault: &TraceFault, buf: &mut [u8; 96]) -> usize
     ensures written { take result buf.new ≡ line_of fault.now }
     ensures fits { result ≤ 96 }

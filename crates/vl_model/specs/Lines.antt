@@ -16,9 +16,11 @@ pub data Line : Type 0 where
   item : Item → Line
   joint : TopItem → Line
 
+-- the lines of a leaf: its heading, its ports and its items
 abbrev pub leaf_lines : Leaf → List Line
 leaf_lines l = heading l.name ∷ (map port l.ports ++ map item l.items)
 
+-- the lines of the top: its heading, its ports and its items
 abbrev pub top_lines : Top → List Line
 top_lines t = heading (codes "noc") ∷ (map port t.ports ++ map joint t.items)
 
@@ -29,11 +31,13 @@ pub record Site : Type 0 where
   pub before : List Line
   pub line : Line
 
+-- lines with what stands around them, where others stand before them in the module
 abbrev pub sites_behind : List Leaf → List Line → List Line → List Line → List Site
 sites_behind leaves lines before [] = []
 sites_behind leaves lines before (x ∷ xs) =
     record { leaves = leaves; lines = lines; before = before; line = x } ∷ sites_behind leaves lines (before ++ x ∷ []) xs
 
+-- the lines of a module with what stands around them
 abbrev pub module_sites : List Leaf → List Line → List Site
 module_sites leaves lines = sites_behind leaves lines [] lines
 
@@ -55,6 +59,7 @@ pub record Declared : Type 0 where
   pub high : ℕ
   pub last : ℕ
 
+-- the way in which a port is declared
 abbrev pub way_of : Bool → Kind
 way_of true = Output
 way_of false = Input
@@ -72,6 +77,7 @@ declared (item (store c n i e)) = None
 declared (joint (Wire h n)) = Some (record { name = n; kind = Inner; high = h; last = 0 })
 declared (joint (Instance l n joins)) = Some (record { name = n; kind = Child; high = 0; last = 0 })
 
+-- what is declared, if it has the name, and else what is found later
 abbrev pub found : Option Declared → Name → Option Declared → Option Declared
 found None n later = later
 found (Some x) n later = if bytes_eq n x.name then Some x else later
@@ -86,23 +92,28 @@ abbrev pub kind_passes : (Kind → Bool) → Option Declared → Bool
 kind_passes test None = false
 kind_passes test (Some x) = test x.kind
 
+-- whether it has a number in each cycle: a port, a wire or a register
 abbrev pub is_net : Kind → Bool
 is_net Memory = false
 is_net Child = false
 is_net _ = true
 
+-- whether it is a memory
 abbrev pub is_memory : Kind → Bool
 is_memory Memory = true
 is_memory _ = false
 
+-- whether it is a register
 abbrev pub is_register : Kind → Bool
 is_register Register = true
 is_register _ = false
 
+-- whether it is an input port
 abbrev pub is_input : Kind → Bool
 is_input Input = true
 is_input _ = false
 
+-- whether it is an output port
 abbrev pub is_output : Kind → Bool
 is_output Output = true
 is_output _ = false
@@ -113,10 +124,12 @@ is_driven Output = true
 is_driven Inner = true
 is_driven _ = false
 
+-- the bits of a net; 0 where no net is declared
 abbrev pub net_bits : Option Declared → ℕ
 net_bits None = 0
 net_bits (Some x) = if is_net x.kind then x.high + 1 else 0
 
+-- the bits of a memory's word; 0 where no memory is declared
 abbrev pub word_bits : Option Declared → ℕ
 word_bits None = 0
 word_bits (Some x) = if is_memory x.kind then x.high + 1 else 0
@@ -134,5 +147,6 @@ word_count (Some x) = x.last + 1
 abbrev pub leaf_named : List Leaf → Name → Option Leaf
 leaf_named leaves n = find (λ (l : Leaf). bytes_eq n l.name) leaves
 
+-- the port of a name
 abbrev pub port_named : List Port → Name → Option Port
 port_named ports n = find (λ (p : Port). bytes_eq n p.name) ports

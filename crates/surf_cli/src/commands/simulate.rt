@@ -5,15 +5,17 @@ ghost use Rattle.surf_cli.specs.Jobs.{Simulate, HasFewCycles};
 ghost use Rattle.surf_cli.specs.Commands.{simulate_words};
 ghost use Rattle.surf_cli.specs.Meaning.{over};
 ghost use Rattle.surf_cli.specs.Answers.{text_of, Makes, IsRefused};
+ghost use Rattle.noc_model.specs.Limits.{most_cycles};
 ghost use Rattle.surf_cli.specs.Spoken.{command, job, gathered};
 
-use super::{Command, Job, RUN_CYCLES};
+use super::{Command, Job};
 use crate::answers::Text;
 use crate::contents::Contents;
 use crate::files::{FileKind, NamedFile, NamedFiles};
 use crate::judging::{judge, judge_trace, needs_built};
 use crate::reports::Reports;
 use crate::statuses::End;
+use noc_model::limits::MOST_CYCLES;
 use std::alloc::Global;
 use surf_base::read_decimal;
 
@@ -24,7 +26,7 @@ pub(super) fn words(args: &[String]) -> Option<Command<'_>>
 {
     match args {
         [description, trace, cycles] => {
-            let cycles = read_decimal(cycles.as_bytes(), RUN_CYCLES)? as u32;
+            let cycles = read_decimal(cycles.as_bytes(), MOST_CYCLES as u64)? as u32;
             let description = NamedFile::new(FileKind::Description, description.as_str());
             let trace = NamedFile::new(FileKind::Trace, trace.as_str());
             Some(Command {
@@ -38,7 +40,7 @@ pub(super) fn words(args: &[String]) -> Option<Command<'_>>
 
 /// What is written: the reports of all domains. What the files hold is dropped before the run.
 pub(super) fn make(alloc: Global, contents: Contents, cycles: u32) -> Result<Text, End>
-    requires { cycles ≤ 65536 }
+    requires { cycles ≤ most_cycles }
     ensures ok { IfOk result (λ text. Makes (over (Simulate cycles) (gathered contents)) (text_of text)) }
     ensures err { IfErr result (λ end. IsRefused (over (Simulate cycles) (gathered contents)) end) }
 {
