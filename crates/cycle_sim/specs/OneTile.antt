@@ -15,8 +15,8 @@ use Rattle.noc_model.specs.Step.{is_ready_packet, next_packet, entry, is_dropped
 use Rattle.cycle_sim.specs.declared.tile.Claim.{Claim}
 use Rattle.cycle_sim.specs.declared.tile.Claim.TheVariants.{Waiting, Sent, Open}
 
--- what the tile keeps for one domain: the list of its one channel and its stage, whether an output and a switch were ever
--- won, and the attachment
+-- what the tile keeps for one domain: the list of its one channel and its stage, whether an output and a switch were
+-- ever won, and the attachment
 pub record One : Type 0 where
   pub queue : List Flit
   pub claim : Claim
@@ -77,7 +77,8 @@ next_one p d offer hears x =
 
 -- the start
 abbrev pub start_one : One
-start_one = record { queue = []; claim = Waiting; won = false; granted = false; packet = Between; dropped = false; ejected = None }
+start_one = record { queue = []; claim = Waiting; won = false; granted = false; packet = Between; dropped = false;
+    ejected = None }
 
 -- the state of a tile that is alone is this one, at each place that there is
 pub record Stands (x : One) (s : Tile) : Type 0 where
@@ -99,12 +100,14 @@ pub record Stands (x : One) (s : Tile) : Type 0 where
 
 -- the state of a domain after a cycle
 abbrev pub driven_one : Plan → Driver → (ℕ → List ℕ) → ℕ → ℕ → One → One
-driven_one p v states t d x = next_one p d (offer_at v states t (attach_of p 0 d)) (hears_at v states t (attach_of p 0 d)) x
+driven_one p v states t d x = next_one p d (offer_at v states t (attach_of p 0 d))
+    (hears_at v states t (attach_of p 0 d)) x
 
 -- the state of attachment j of a domain after a cycle
 abbrev pub driver_after : Plan → Driver → ℕ → ℕ → One → List ℕ → List ℕ
 driver_after p v t j x state =
-    after_got v j (after_taken v j state t (is_ready_packet x.packet (length x.queue) p.buffer && is_some (v.offer j state t))) t (v.hears j state t) (ejected_of x.ejected)
+    after_got v j (after_taken v j state t (is_ready_packet x.packet (length x.queue) p.buffer
+        && is_some (v.offer j state t))) t (v.hears j state t) (ejected_of x.ejected)
 
 -- what is seen at attachment j in a cycle
 abbrev pub seen_one : Plan → Driver → ℕ → ℕ → One → List ℕ → SeenAt

@@ -24,7 +24,8 @@ pub(crate) fn step_attached<D: Drive>(
         ((D.driver drive.old).hears j (D.state drive.old j) cycle) tile.old }
     ensures count { D.count drive.new ≡ D.count drive.old }
     ensures driver { D.driver drive.new ≡ D.driver drive.old }
-    ensures state { D.state drive.new j ≡ driver_after plan.now (D.driver drive.old) cycle j tile.old (D.state drive.old j) }
+    ensures state { D.state drive.new j
+        ≡ driver_after plan.now (D.driver drive.old) cycle j tile.old (D.state drive.old j) }
     ensures others { (k : ℕ) → k ≢ j → D.state drive.new k ≡ D.state drive.old k }
     ensures seen { seen_at seen.new j ≡ seen_one plan.now (D.driver drive.old) cycle j tile.old (D.state drive.old j) }
     ensures seen_len { length seen.new ≡ length seen.old }

@@ -112,9 +112,9 @@ fn push_seen(events: &mut Events, t: u32, plan: &Plan, seen: &Seen) -> Result<()
     Ok(())
 }
 
-/// The events of the cycles from 0 to `cycles` - 1, of all domains in one list. Those of each domain are the events of a run
-/// of this domain alone, and network and driver then stand as after that run. Where memory is wanting they stand as after
-/// the whole cycles below the network's.
+/// The events of the cycles from 0 to `cycles` - 1, of all domains in one list. Those of each domain are the events
+/// of a run of this domain alone, and network and driver then stand as after that run. Where memory is wanting they
+/// stand as after the whole cycles below the network's.
 pub fn run<D: Drive>(
     alloc: Global,
     net: &mut Net,
@@ -135,7 +135,8 @@ pub fn run<D: Drive>(
     ensures count { D.count drive.new ≡ D.count drive.old }
     ensures driver { D.driver drive.new ≡ D.driver drive.old }
     ensures attached { (j : ℕ) (h : Host) → slice_get net.old.plan.hosts j ≡ Some h → D.state drive.new j
-        ≡ driver_states net.old.plan h.domain (D.driver drive.old) net.new.cycle 0 (start net.old.plan) (D.state drive.old) j }
+        ≡ driver_states net.old.plan h.domain (D.driver drive.old) net.new.cycle 0 (start net.old.plan)
+            (D.state drive.old) j }
 {
     net.known();
     net.plan().known();

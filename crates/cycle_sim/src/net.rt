@@ -90,8 +90,8 @@ impl Net {
         &self.plan
     }
 
-    /// One cycle: each domain's state goes on as if the domain were alone, the driver is told what was taken and got, and
-    /// what was seen is kept. Takes no memory.
+    /// One cycle: each domain's state goes on as if the domain were alone, the driver is told what was taken and got,
+    /// and what was seen is kept. Takes no memory.
     pub fn step<D: Drive>(&mut self, drive: &mut D, seen: &mut Seen)
         requires cycle { self.old.cycle < most_cycles }
         requires count { D.count drive.old ≡ length self.old.plan.hosts }
@@ -102,11 +102,15 @@ impl Net {
             → Shows self.new d (step self.old.plan d (pos self.old.cycle) s (driven self.old.plan d (D.driver drive.old) (D.state drive.old) self.old.cycle)) }
         ensures count { D.count drive.new ≡ D.count drive.old }
         ensures driver { D.driver drive.new ≡ D.driver drive.old }
-        ensures states { (j : ℕ) (h : Host) (s : State) → slice_get self.old.plan.hosts j ≡ Some h → Shows self.old h.domain s
-            → D.state drive.new j ≡ next_state self.old.plan h.domain (D.driver drive.old) self.old.cycle s j (D.state drive.old j) (Some h) }
+        ensures states { (j : ℕ) (h : Host) (s : State) → slice_get self.old.plan.hosts j ≡ Some h
+            → Shows self.old h.domain s
+            → D.state drive.new j ≡ next_state self.old.plan h.domain (D.driver drive.old) self.old.cycle s j
+                (D.state drive.old j) (Some h) }
         ensures seen_len { length seen.new ≡ length seen.old }
-        ensures seen { (j : ℕ) (h : Host) (s : State) → slice_get self.old.plan.hosts j ≡ Some h → Shows self.old h.domain s
-            → seen_at seen.new j ≡ seen_of self.old.plan (D.driver drive.old) self.old.cycle j (s h.tile) (D.state drive.old j) }
+        ensures seen { (j : ℕ) (h : Host) (s : State) → slice_get self.old.plan.hosts j ≡ Some h
+            → Shows self.old h.domain s
+            → seen_at seen.new j ≡ seen_of self.old.plan (D.driver drive.old) self.old.cycle j (s h.tile)
+                (D.state drive.old j) }
     {
         self.plan.known();
         step_domains(

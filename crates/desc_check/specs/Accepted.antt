@@ -11,16 +11,20 @@ use Rattle.desc_check.specs.Faults.{version_fault, shape_fault, dims_fault, stag
 
 -- the first fault of what has one number
 abbrev pub form_fault : Draft → Option DescFault
-form_fault d = first_of (version_fault d.version ∷ shape_fault d.shape ∷ dims_fault d.version d.dims ∷ stages_fault d.stages ∷ buffer_fault d.buffer ∷ [])
+form_fault d = first_of (version_fault d.version ∷ shape_fault d.shape ∷ dims_fault d.version d.dims
+    ∷ stages_fault d.stages ∷ buffer_fault d.buffer ∷ [])
 
 abbrev pub domains_fault : Draft → Option DescFault
-domains_fault d = first_of (domain_count_fault d.domains ∷ domain_name_fault d.domains ∷ domain_twice_fault d.domains ∷ channels_fault d.domains ∷ [])
+domains_fault d = first_of (domain_count_fault d.domains ∷ domain_name_fault d.domains ∷ domain_twice_fault d.domains
+    ∷ channels_fault d.domains ∷ [])
 
 abbrev pub tiles_fault : Draft → Option DescFault
-tiles_fault d = first_of (tile_range_fault (tile_count d.dims) d.tiles ∷ tile_twice_fault d.tiles ∷ host_unknown_fault d.domains d.tiles ∷ host_twice_fault d.tiles ∷ [])
+tiles_fault d = first_of (tile_range_fault (tile_count d.dims) d.tiles ∷ tile_twice_fault d.tiles
+    ∷ host_unknown_fault d.domains d.tiles ∷ host_twice_fault d.tiles ∷ [])
 
 abbrev pub ranges_fault : Draft → Option DescFault
-ranges_fault d = first_of (range_tile_fault (tile_count d.dims) d.ranges ∷ range_order_fault d.ranges ∷ range_overlap_fault d.ranges ∷ [])
+ranges_fault d = first_of (range_tile_fault (tile_count d.dims) d.ranges ∷ range_order_fault d.ranges
+    ∷ range_overlap_fault d.ranges ∷ [])
 
 -- what the places of a plan are counted from is in range
 pub record IsSized (p : Plan) : Type 0 where
@@ -39,7 +43,8 @@ abbrev pub sizes_fault : Draft → Option DescFault
 sizes_fault d = plan_fault (plan_of_draft d)
 
 abbrev pub slots_fault : Draft → Option DescFault
-slots_fault d = first_of (slot_count_fault d.version d.slots ∷ slot_unknown_fault d.domains d.slots ∷ slot_missing_fault d.version d.domains d.slots ∷ [])
+slots_fault d = first_of (slot_count_fault d.version d.slots ∷ slot_unknown_fault d.domains d.slots
+    ∷ slot_missing_fault d.version d.domains d.slots ∷ [])
 
 -- the first fault of a draft's values and lists
 abbrev pub lists_fault : Draft → Option DescFault

@@ -28,7 +28,8 @@ most_sides version = if int_eq version (pos 1) then 2 else 3
 
 -- one side or more, each of 1 to 16 tiles, with not too many tiles in all
 abbrev pub has_sides : ℤ → List ℤ → Bool
-has_sides version dims = is_between 1 (most_sides version) (length dims) && list_all (is_within 1 16) dims && nat_le (tile_count dims) most_tiles
+has_sides version dims = is_between 1 (most_sides version) (length dims) && list_all (is_within 1 16) dims
+    && nat_le (tile_count dims) most_tiles
 
 abbrev pub dims_fault : ℤ → List ℤ → Option DescFault
 dims_fault version dims = fault_if (not (has_sides version dims)) Dims
@@ -53,7 +54,8 @@ domain_name_fault domains = first_at (λ i x. fault_if (not (is_name x.name)) (D
 
 -- domain i has the name of a later domain: the first such
 abbrev pub same_name_fault : List DraftDomain → ℕ → DraftDomain → Option DescFault
-same_name_fault domains i x = first_at (λ j y. fault_if (nat_lt i j && bytes_eq x.name y.name) (DomainTwice i j)) 0 domains
+same_name_fault domains i x = first_at (λ j y. fault_if (nat_lt i j && bytes_eq x.name y.name) (DomainTwice i j)) 0
+    domains
 
 -- the first pair of domains with one name
 abbrev pub domain_twice_fault : List DraftDomain → Option DescFault
@@ -79,7 +81,8 @@ tile_twice_fault elements = first_at (same_tile_fault elements) 0 elements
 
 -- the first name of element i that is no domain's
 abbrev pub unknown_name_fault : List DraftDomain → ℕ → DraftTile → Option DescFault
-unknown_name_fault domains i x = first_at (λ k name. fault_if (not (is_domain domains name)) (HostUnknown i k)) 0 x.domains
+unknown_name_fault domains i x = first_at (λ k name. fault_if (not (is_domain domains name)) (HostUnknown i k)) 0
+    x.domains
 
 -- the first name of an element that is no domain's
 abbrev pub host_unknown_fault : List DraftDomain → List DraftTile → Option DescFault
@@ -97,7 +100,8 @@ host_twice_fault elements = first_at repeated_name_fault 0 elements
 
 -- the first range of no tile, or beyond the most ranges
 abbrev pub range_tile_fault : ℕ → List DraftRange → Option DescFault
-range_tile_fault tiles ranges = first_at (λ i x. fault_if (not (is_below tiles x.tile) || nat_le most_ranges i) (RangeTile i)) 0 ranges
+range_tile_fault tiles ranges = first_at
+    (λ i x. fault_if (not (is_below tiles x.tile) || nat_le most_ranges i) (RangeTile i)) 0 ranges
 
 -- addresses of 32 bits, the first not above the last
 unfoldable pub is_in_order : DraftRange → Bool
@@ -137,7 +141,8 @@ attach_fault count = fault_if (nat_lt most_hosts count) (AttachMany count)
 
 -- version 2 has no slot, or too many
 abbrev pub slot_count_fault : ℤ → List (List ℕ) → Option DescFault
-slot_count_fault version slots = fault_if (int_eq version (pos 2) && not (is_between 1 most_slots (length slots))) SlotCount
+slot_count_fault version slots = fault_if (int_eq version (pos 2) && not (is_between 1 most_slots (length slots)))
+    SlotCount
 
 -- the first slot that is no domain's
 abbrev pub slot_unknown_fault : List DraftDomain → List (List ℕ) → Option DescFault
@@ -145,4 +150,5 @@ slot_unknown_fault domains slots = first_at (λ i name. fault_if (not (is_domain
 
 -- the first domain without a slot, in version 2
 abbrev pub slot_missing_fault : ℤ → List DraftDomain → List (List ℕ) → Option DescFault
-slot_missing_fault version domains slots = first_at (λ i x. fault_if (int_eq version (pos 2) && not (is_among slots x.name)) (SlotMissing i)) 0 domains
+slot_missing_fault version domains slots = first_at (λ i x. fault_if (int_eq version (pos 2)
+    && not (is_among slots x.name)) (SlotMissing i)) 0 domains

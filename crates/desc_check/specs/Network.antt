@@ -43,7 +43,8 @@ pair_at count k = record { tile = k / count; domain = k % count }
 -- the pairs of a tile and a domain that it hosts, by tile, then by domain
 abbrev pub hosts_of : ℕ → List DraftDomain → List DraftTile → List Host
 hosts_of tiles domains elements =
-    filter (λ (h : Host). is_hosted elements h.tile (name_at domains h.domain)) (map (pair_at (length domains)) (range_with_len 0 (tiles * length domains)))
+    filter (λ (h : Host). is_hosted elements h.tile (name_at domains h.domain))
+        (map (pair_at (length domains)) (range_with_len 0 (tiles * length domains)))
 
 -- the number of the first domain of this name; 0 where there is none
 abbrev pub domain_number : List DraftDomain → List ℕ → ℕ
@@ -51,7 +52,8 @@ domain_number domains name = unwrap_or (position_from (λ x. bytes_eq x.name nam
 
 -- a slot for each domain, in order, in version 1; the slots that are listed, in version 2
 abbrev pub slots_of : ℤ → List DraftDomain → List (List ℕ) → List ℕ
-slots_of version domains slots = if int_eq version (pos 1) then range_with_len 0 (length domains) else map (domain_number domains) slots
+slots_of version domains slots = if int_eq version (pos 1) then range_with_len 0 (length domains) else map
+    (domain_number domains) slots
 
 abbrev pub plan_of_draft : Draft → Plan
 plan_of_draft d = record {

@@ -32,8 +32,8 @@ fn same_tile_fault(elements: &[DraftTile], i: usize, element: &DraftTile) -> Opt
     None
 }
 
-/// The first pair of elements for one tile. Where each is for a tile, elements that have no such partner are for tiles of
-/// their own, so the search is over after one element more than there are tiles.
+/// The first pair of elements for one tile. Where each is for a tile, elements that have no such partner are for
+/// tiles of their own, so the search is over after one element more than there are tiles.
 fn tile_twice_fault(elements: &[DraftTile]) -> Option<DescFault>
     ensures { result ≡ tile_twice_fault elements.now }
 {

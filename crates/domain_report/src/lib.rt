@@ -1,8 +1,8 @@
 //! The report of a domain: what its attachments took and got, and what waited or was dropped.
 //!
-//! [`report`] promises the bytes of the report that the events of that domain alone have, in the order of the list, at the
-//! sink, or a prefix of them and a risen count of faults; [`put_report`] gathers the same bytes in a `Block`. Which domain is
-//! reported to whom, and where the events come from, is left to the parts above.
+//! [`report`] promises the bytes of the report that the events of that domain alone have, in the order of the list,
+//! at the sink, or a prefix of them and a risen count of faults; [`put_report`] gathers the same bytes in a `Block`.
+//! Which domain is reported to whom, and where the events come from, is left to the parts above.
 #![tactic(auto)]
 
 ghost use Rattle.std.specs.Prelude.{◌≡◌, ◌==◌, ◌<◌, ◌≤◌, length, filter, OnOk, OnErr};
@@ -24,8 +24,8 @@ use noc_model::Plan;
 use surf_base::{Block, Failed, Sink};
 use tile_drive::Events;
 
-/// Writes the report of domain `d`, which is below the plan's domains: its name, a line for each of its events, and how many
-/// there are of each kind. Takes no memory.
+/// Writes the report of domain `d`, which is below the plan's domains: its name, a line for each of its events, and
+/// how many there are of each kind. Takes no memory.
 ///
 /// # Errors
 ///
@@ -60,7 +60,8 @@ pub fn put_report<O: Sink>(
 ) -> Result<(), Failed>
     requires { d < length plan.now.domains }
     ensures { Writes result (stream (O.written out.old) block.old (O.faults out.old))
-        (stream (O.written out.new) block.new (O.faults out.new)) (report plan.now d (filter (λ e. e.domain == d) events.now)) }
+        (stream (O.written out.new) block.new (O.faults out.new))
+            (report plan.now d (filter (λ e. e.domain == d) events.now)) }
 {
     put_title(block, out, plan.name(d))?;
     let counts = put_events(block, out, events.as_slice(), d)?;

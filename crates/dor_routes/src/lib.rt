@@ -14,8 +14,8 @@ pub mod laws;
 
 use noc_model::{Plan, Way};
 
-/// The port by which a flit for tile `dest` leaves tile `at`, the local port, 0, where it is there (dimension-order routing:
-/// Dally and Towles, section 8.4). On a torus it goes round a ring the shorter way, and by plus at a tie.
+/// The port by which a flit for tile `dest` leaves tile `at`, the local port, 0, where it is there (dimension-order
+/// routing: Dally and Towles, section 8.4). On a torus it goes round a ring the shorter way, and by plus at a tie.
 pub fn route(plan: &Plan, at: u32, dest: u32) -> u32
     requires at { at < tiles plan.now }
     requires dest { dest < tiles plan.now }
@@ -111,8 +111,8 @@ fn is_same_dim(a: Way, b: Way) -> bool
     }
 }
 
-/// The rank of the channels of a class on the link that leaves tile `at` by the port, below 96; 0 for the local port. It rises
-/// along every route.
+/// The rank of the channels of a class on the link that leaves tile `at` by the port, below 96; 0 for the local port.
+/// It rises along every route.
 pub fn rank(plan: &Plan, at: u32, out_port: u32, class: u32) -> u32
     requires tile { at < tiles plan.now }
     requires port { out_port < ports plan.now }
@@ -131,7 +131,8 @@ pub fn rank(plan: &Plan, at: u32, out_port: u32, class: u32) -> u32
     }
 }
 
-/// The rank of the channels of a class on the link of dimension `i` that leaves the `x`-th of `k` tiles from the edge on.
+/// The rank of the channels of a class on the link of dimension `i` that leaves the `x`-th of `k` tiles from the edge
+/// on.
 fn rank_on(i: u32, k: u32, x: u32, class: u32) -> u32
     requires dim { i < 3 }
     requires within { x < k }

@@ -10,9 +10,9 @@ const KINDS: u32 = 11;
 
 /// A port of a plan's text. `high` is the number of its most significant bit.
 ///
-/// `kind` is its place among the ports of its attachment, 0 to 10: a word is offered, its address, its payload, whether it
-/// is its packet's last, whether the tile hears; ready, the drop pulse, whether there is a flit, its head bit, its tail bit,
-/// its payload.
+/// `kind` is its place among the ports of its attachment, 0 to 10: a word is offered, its address, its payload,
+/// whether it is its packet's last, whether the tile hears; ready, the drop pulse, whether there is a flit, its head
+/// bit, its tail bit, its payload.
 #[derive(Clone, Copy, Debug, PartialEq, Eq)]
 pub struct PortSpec {
     pub output: bool,

@@ -15,7 +15,8 @@ use Rattle.noc_desc.specs.Keys.{name}
 -- the members, and a value at a key, in the order of the keys
 abbrev pub put_member : List ℕ → Data → Members → Members
 put_member k d no_members = member k d no_members
-put_member k d (member l e more) = match_ordering (slice_cmp nat_cmp k l) (member k d (member l e more)) (member l d more) (member l e (put_member k d more))
+put_member k d (member l e more) = match_ordering (slice_cmp nat_cmp k l) (member k d (member l e more))
+    (member l d more) (member l e (put_member k d more))
 
 -- the members, and a value at a key of a description
 abbrev pub put : Key → Data → Members → Members

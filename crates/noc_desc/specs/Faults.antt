@@ -1,4 +1,5 @@
--- What is wrong with a description's tables: the first fault is the one of the least number, and of these the one at the least place.
+-- What is wrong with a description's tables: the first fault is the one of the least number, and of these the one at
+-- the least place.
 use Rattle.std.specs.Prelude.{ℕ, ◌+◌, pos, List, [], ◌∷◌, ◌++◌, Option, Some, None, option_map, if◌then◌else◌}
 use Rattle.std.specs.Ordering.{int_eq}
 use Rattle.std.specs.List.{position_from}
@@ -27,7 +28,8 @@ top_kind members = if int_eq (number_at Version members) (pos 2) then WeightedTo
 -- the tables among an array's elements, which are counted from n
 abbrev pub element_tables : Kind → ℕ → Items → List Place
 element_tables kind n no_items = []
-element_tables kind n (item (table members) more) = record { kind = kind; element = n; members = members } ∷ element_tables kind (n + 1) more
+element_tables kind n (item (table members) more) =
+    record { kind = kind; element = n; members = members } ∷ element_tables kind (n + 1) more
 element_tables kind n (item _ more) = element_tables kind (n + 1) more
 
 -- the tables of a description: the whole, then the domains, the tiles and the ranges
@@ -65,7 +67,8 @@ fault_at Misfit kind element key = KeyKind kind element key
 
 -- the first fault of one flaw in one table
 abbrev pub place_fault : Flaw → Place → Option DescFault
-place_fault flaw place = option_map (fault_at flaw (kind_number place.kind) place.element) (flawed_key flaw place.kind place.members)
+place_fault flaw place = option_map (fault_at flaw (kind_number place.kind) place.element)
+    (flawed_key flaw place.kind place.members)
 
 -- the first answer that there is
 abbrev pub first_some : {A B : Type 0} → (A → Option B) → List A → Option B
@@ -74,4 +77,5 @@ first_some f (x ∷ xs) = option_or (f x) (first_some f xs)
 
 -- the first fault of the tables: by flaw, then by table
 abbrev pub table_fault : Members → Option DescFault
-table_fault members = first_some (λ flaw. first_some (place_fault flaw) (tables members)) (Unknown ∷ Missing ∷ Misfit ∷ [])
+table_fault members = first_some (λ flaw. first_some (place_fault flaw) (tables members))
+    (Unknown ∷ Missing ∷ Misfit ∷ [])

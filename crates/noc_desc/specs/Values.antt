@@ -1,4 +1,5 @@
--- The values of a table, each read as what a description has there. A key that is absent, or of another form, reads as nothing: 0 or an empty list.
+-- The values of a table, each read as what a description has there. A key that is absent, or of another form, reads
+-- as nothing: 0 or an empty list.
 use Rattle.std.specs.Prelude.{ℕ, ℤ, pos, List, [], ◌∷◌, Option, Some}
 use Rattle.toml.specs.Data.{Data, integer, string, array, table, Items, no_items, item, Members}
 use Rattle.noc_desc.specs.declared.DraftDomain.{DraftDomain}
@@ -56,7 +57,8 @@ tile members = record { at = number_at At members; domains = texts (elements_at 
 
 -- a range's table
 abbrev pub range : Members → DraftRange
-range members = record { tile = number_at InTile members; first = number_at First members; last = number_at Last members }
+range members = record { tile = number_at InTile members; first = number_at First members;
+    last = number_at Last members }
 
 -- the domains among some elements
 abbrev pub domains : Items → List DraftDomain

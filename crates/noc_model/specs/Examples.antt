@@ -52,7 +52,8 @@ two_tiles = record (plain false (2 ∷ [])) {
 }
 
 abbrev pub three_in_a_row : Plan
-three_in_a_row = record (plain false (3 ∷ [])) { buffer = 4; hosts = alone_at (0 ∷ 1 ∷ 2 ∷ []); ranges = range 1 0x100 0x1ff ∷ [] }
+three_in_a_row = record (plain false (3 ∷ []))
+    { buffer = 4; hosts = alone_at (0 ∷ 1 ∷ 2 ∷ []); ranges = range 1 0x100 0x1ff ∷ [] }
 
 abbrev pub ring_of_three : Plan
 ring_of_three = record (plain true (3 ∷ [])) { hosts = alone_at (0 ∷ 1 ∷ 2 ∷ []); ranges = range 0 0x0 0xff ∷ [] }

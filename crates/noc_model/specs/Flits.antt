@@ -23,7 +23,8 @@ is_port p n port = at_local port true (is_some (neighbour p n port))
 
 -- in the lists of the tile's input channels
 abbrev pub in_lists : Plan → ℕ → ℕ → Tile → List Flit
-in_lists p d n s = gathered (ports p) (λ port. where_there (is_port p n port) (gathered (in_channels p d port) (s.queue port)))
+in_lists p d n s = gathered (ports p)
+    (λ port. where_there (is_port p n port) (gathered (in_channels p d port) (s.queue port)))
 
 -- the flit of a link's place
 abbrev pub flit_of : Option LinkFlit → List Flit
@@ -32,7 +33,8 @@ flit_of (Some x) = x.flit ∷ []
 
 -- on the links that leave it
 abbrev pub on_links : Plan → ℕ → Tile → List Flit
-on_links p n s = gathered (ports p) (λ o. where_there (is_some (neighbour p n o)) (gathered p.stages (λ i. flit_of (s.row o i))))
+on_links p n s =
+    gathered (ports p) (λ o. where_there (is_some (neighbour p n o)) (gathered p.stages (λ i. flit_of (s.row o i))))
 
 -- in its ejection place
 abbrev pub to_be_heard : Plan → ℕ → ℕ → Tile → List Flit
@@ -48,7 +50,8 @@ inside p d s = gathered (tiles p) (λ n. inside_tile p d n (s n))
 
 -- a word that is taken, and not dropped, enters as a flit
 abbrev pub enters_at : Plan → ℕ → State → Input → ℕ → List Flit
-enters_at p d s x n = where_there (hosts p n d) (option_to_list (entry p d (s n).packet (word_in p (s n) (fed p d s x n))))
+enters_at p d s x n = where_there (hosts p n d)
+    (option_to_list (entry p d (s n).packet (word_in p (s n) (fed p d s x n))))
 
 -- the flit of a got event of the tile
 abbrev pub delivered_at : Plan → ℕ → State → Input → ℕ → List Flit

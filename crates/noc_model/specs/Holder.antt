@@ -24,7 +24,8 @@ pub record HasHolder (p : Plan) (d : ℕ) (s : Tile) (o w : ℕ) : Type 0 where
 -- an output channel is held exactly where an input channel goes out on it, and no two do
 pub record IsHeldTile (p : Plan) (d n : ℕ) (s : Tile) : Type 0 where
   pub held : (o w port c : ℕ) → IsHolder p d s o w port c → s.held o w ≡ true
-  pub one : (o w port c port' c' : ℕ) → IsHolder p d s o w port c → IsHolder p d s o w port' c' → (port ≡ port') × (c ≡ c')
+  pub one : (o w port c port' c' : ℕ) → IsHolder p d s o w port c → IsHolder p d s o w port' c'
+      → (port ≡ port') × (c ≡ c')
   pub holder : (o w : ℕ) → s.held o w ≡ true → HasHolder p d s o w
   -- a port without a link has no packets
   pub unlinked : (port c : ℕ) → port ≢ 0 → neighbour p n port ≡ None → s.stage port c ≡ Idle

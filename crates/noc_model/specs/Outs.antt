@@ -14,7 +14,8 @@ pub record AttachOut : Type 0 where
   pub dropped : Bool
   pub ejected : Option Ejected
 
--- what a tile shows: of each output the last place of the leaving link, of each input the credit pulse, and its attachment
+-- what a tile shows: of each output the last place of the leaving link, of each input the credit pulse, and its
+-- attachment
 pub record TileOut : Type 0 where
   pub last : ℕ → Option LinkFlit
   pub pulse : ℕ → ℕ → Bool

@@ -33,9 +33,11 @@ on_way (suc k) row w = flit_on (row k) w ++ on_way k row w
 -- what tile n sends by output o on channel w in the cycles of these inputs, from cycle t and the state s on
 abbrev pub sent_on : Plan → ℕ → ℕ → State → List Input → ℕ → ℕ → ℕ → List Flit
 sent_on p d t s [] n o w = []
-sent_on p d t s (x ∷ xs) n o w = flit_on (sent p d n (pos t) (s n) (fed p d s x n) o) w ++ sent_on p d (suc t) (step p d (pos t) s x) xs n o w
+sent_on p d t s (x ∷ xs) n o w = flit_on (sent p d n (pos t) (s n) (fed p d s x n) o) w
+    ++ sent_on p d (suc t) (step p d (pos t) s x) xs n o w
 
 -- what enters there by the local channel c
 abbrev pub entered_by : Plan → ℕ → ℕ → State → List Input → ℕ → ℕ → List Flit
 entered_by p d t s [] n c = []
-entered_by p d t s (x ∷ xs) n c = comes_in p d (s n) (fed p d s x n) 0 c ++ entered_by p d (suc t) (step p d (pos t) s x) xs n c
+entered_by p d t s (x ∷ xs) n c = comes_in p d (s n) (fed p d s x n) 0 c
+    ++ entered_by p d (suc t) (step p d (pos t) s x) xs n c

@@ -1,4 +1,5 @@
--- Coordinates, ports, neighbours, routes, classes, ranks and owners. A tile has a number, and is reached by a port's number.
+-- Coordinates, ports, neighbours, routes, classes, ranks and owners. A tile has a number, and is reached by a port's
+-- number.
 use Rattle.std.specs.Prelude.{ℕ, zero, suc, ◌+◌, ◌-◌, ◌*◌, ◌/◌, ◌%◌, Bool, false, List, [], ◌∷◌, length, if◌then◌else◌, ◌==◌, nat_le, nat_lt, ◌&&◌, ◌||◌, Option, Some, None, slice_set, slice_index, slice_index_or, sum_by, ℤ, pos, negsuc, ◌+ℤ◌, ◌-ℤ◌}
 use Rattle.noc_model.specs.declared.ways.Way.{Way}
 use Rattle.noc_model.specs.declared.ways.Way.TheVariants.{Local, Plus, Minus}
@@ -72,11 +73,14 @@ neighbour p n port = if has_link p n (way_of port) then Some (tile_that_way p n 
 abbrev pub are_edges : ℕ → ℕ → ℕ → Bool
 are_edges k x y = ((x == 0) && (y + 1 == k)) || ((y == 0) && (x + 1 == k))
 
--- whether the link that leaves tile n that way is a wrap link: on a torus, from edge to edge. In a side of 2 each link is one
+-- whether the link that leaves tile n that way is a wrap link: on a torus, from edge to edge. In a side of 2 each
+-- link is one
 abbrev pub is_wrap_way : Plan → ℕ → Way → Bool
 is_wrap_way p n Local = false
-is_wrap_way p n (Plus i) = p.torus && (nat_lt 1 (side p i) && are_edges (side p i) (coord p n i) (next_in (side p i) (coord p n i)))
-is_wrap_way p n (Minus i) = p.torus && (nat_lt 1 (side p i) && are_edges (side p i) (coord p n i) (last_in (side p i) (coord p n i)))
+is_wrap_way p n (Plus i) = p.torus && (nat_lt 1 (side p i)
+    && are_edges (side p i) (coord p n i) (next_in (side p i) (coord p n i)))
+is_wrap_way p n (Minus i) = p.torus && (nat_lt 1 (side p i)
+    && are_edges (side p i) (coord p n i) (last_in (side p i) (coord p n i)))
 
 -- whether the link that leaves tile n by the port is a wrap link
 unfoldable pub is_wrap : Plan → ℕ → ℕ → Bool
@@ -84,7 +88,8 @@ is_wrap p n port = is_wrap_way p n (way_of port)
 
 -- ---- routes
 
--- whether the way from the coordinate x to another, y, is by plus: on a torus with a side of k the shorter way, and plus at a tie
+-- whether the way from the coordinate x to another, y, is by plus: on a torus with a side of k the shorter way, and
+-- plus at a tie
 abbrev pub goes_plus : Bool → ℕ → ℕ → ℕ → Bool
 goes_plus torus k x y = if torus then nat_le (2 * ((y + k - x) % k)) k else nat_lt x y
 
@@ -113,14 +118,15 @@ is_same_dim (Minus i) Local = false
 is_same_dim (Minus i) (Plus j) = i == j
 is_same_dim (Minus i) (Minus j) = i == j
 
--- the class in which a packet goes on by an output: 1 on a wrap link, the dateline; else, within a dimension, the class that
--- it came in; else 0. On a mesh no link is a wrap link, so all classes are 0
+-- the class in which a packet goes on by an output: 1 on a wrap link, the dateline; else, within a dimension, the
+-- class that it came in; else 0. On a mesh no link is a wrap link, so all classes are 0
 unfoldable pub class_after : Plan → ℕ → ℕ → ℕ → ℕ → ℕ
 class_after p n in_port in_class out_port =
     if is_wrap p n out_port then 1
     else (if is_same_dim (way_of in_port) (way_of out_port) then in_class else 0)
 
--- how far along its ring of k a link stands that leaves the x-th tile, counted from the edge in class 0, and from behind it in class 1
+-- how far along its ring of k a link stands that leaves the x-th tile, counted from the edge in class 0, and from
+-- behind it in class 1
 abbrev pub position : ℕ → ℕ → ℕ → ℕ
 position k x c = if c == 0 then x else (x + 1) % k
 
@@ -151,7 +157,7 @@ slot_of p n t Local = 0
 slot_of p n t (Plus i) = modulo (t -ℤ pos (hop p * wave p n)) (length p.slots)
 slot_of p n t (Minus i) = modulo (t +ℤ pos (hop p * wave p n)) (length p.slots)
 
--- the domain that owns the link which leaves by the port in cycle t, any whole number. The local output is each domain's own,
--- so nothing reads an owner of port 0
+-- the domain that owns the link which leaves by the port in cycle t, any whole number. The local output is each
+-- domain's own, so nothing reads an owner of port 0
 unfoldable pub owner : Plan → ℕ → ℕ → ℤ → ℕ
 owner p n port t = slice_index p.slots (slot_of p n t (way_of port))

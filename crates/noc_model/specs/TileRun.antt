@@ -17,8 +17,8 @@ tile_after p d n is (suc t) = tile_step p d n (pos t) (tile_after p d n is t) (i
 abbrev pub tile_outs : Plan → ℕ → ℕ → (ℕ → TileIn) → ℕ → TileOut
 tile_outs p d n is t = tile_out p (tile_after p d n is t)
 
--- the flit may arrive by the port in cycle t: by a link, from a cycle in which the domain owned it, on a channel of the domain
--- with room, for a tile that hosts the domain
+-- the flit may arrive by the port in cycle t: by a link, from a cycle in which the domain owned it, on a channel of
+-- the domain with room, for a tile that hosts the domain
 pub record MayArrive (p : Plan) (d n : ℕ) (t : ℤ) (s : Tile) (port : ℕ) (x : LinkFlit) : Type 0 where
   pub from : ℕ
   pub linked : neighbour p n port ≡ Some from
@@ -27,8 +27,8 @@ pub record MayArrive (p : Plan) (d n : ℕ) (t : ℤ) (s : Tile) (port : ℕ) (x
   pub room : length (s.queue port x.channel) < p.buffer
   pub home : GoesHome p d x.flit
 
--- what may come into tile n in cycle t: such flits, credits for counts below the buffer, and nothing from the outside where the
--- tile doesn't host the domain
+-- what may come into tile n in cycle t: such flits, credits for counts below the buffer, and nothing from the outside
+-- where the tile doesn't host the domain
 pub record IsTileIn (p : Plan) (d n : ℕ) (t : ℤ) (s : Tile) (i : TileIn) : Type 0 where
   pub arrives : (port : ℕ) (x : LinkFlit) → i.arrives port ≡ Some x → MayArrive p d n t s port x
   pub returns : (o m w : ℕ) → neighbour p n o ≡ Some m → w < lanes p d → i.returns o w ≡ true → s.credits o w < p.buffer

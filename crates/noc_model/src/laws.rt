@@ -1,4 +1,5 @@
-//! What holds of every plan and every run, over the definitions alone. Each law is the contract of a function that does nothing.
+//! What holds of every plan and every run, over the definitions alone. Each law is the contract of a function that
+//! does nothing.
 
 ghost use Rattle.std.specs.Prelude.{◌≡◌, ◌<◌, ◌+◌, ◌+ℤ◌, ℕ, ℤ, pos, Bool, List, length, Some, false, All, count_by};
 ghost use Rattle.noc_model.specs.declared.Flit.{Flit};
@@ -15,11 +16,13 @@ ghost use Rattle.noc_model.specs.SoundState.{IsSoundState};
 ghost use Rattle.noc_model.specs.Flits.{inside, entered, delivered, delivered_to};
 ghost use Rattle.noc_model.specs.Packets.{AreWholePackets, sent_on, entered_by};
 
-/// Credit conservation. On each channel of each link the credits, the flits on the link, those in the list at its end, and 1
-/// for a credit that is on its way back add up to the buffer, in every state of every run. No list is longer than the
-/// buffer, each flit goes to a tile that hosts the domain, and a flit on a link came there in a cycle that the domain owned.
+/// Credit conservation. On each channel of each link the credits, the flits on the link, those in the list at its
+/// end, and 1 for a credit that is on its way back add up to the buffer, in every state of every run. No list is
+/// longer than the buffer, each flit goes to a tile that hosts the domain, and a flit on a link came there in a cycle
+/// that the domain owned.
 pub fn channel_sum()
-    ensures sum { (p : Plan) (d n port m w : ℕ) (inputs : List Input) → IsSound p → n < tiles p → neighbour p n port ≡ Some m
+    ensures sum { (p : Plan) (d n port m w : ℕ) (inputs : List Input) → IsSound p → n < tiles p
+        → neighbour p n port ≡ Some m
         → channel_sum p (run p d inputs) n port m w ≡ p.buffer }
     ensures states { (p : Plan) (d : ℕ) (inputs : List Input) → IsSound p → d < length p.domains
         → IsSoundState p d (pos (length inputs)) (run p d inputs) }
@@ -31,15 +34,16 @@ pub fn wave()
         → owner p m port (t +ℤ pos (hop p)) ≡ owner p n port t }
 {}
 
-/// Along every route from a local port the channel rank rises from each link to the next, so the channels can't deadlock: the
-/// channel dependency graph is acyclic.
+/// Along every route from a local port the channel rank rises from each link to the next, so the channels can't
+/// deadlock: the channel dependency graph is acyclic.
 pub fn rank_rises()
-    ensures { (p : Plan) (dest n k m : ℕ) (a b : Stop) → IsSound p → stop_at p dest n k ≡ Some a → next_stop p dest a ≡ Some b
+    ensures { (p : Plan) (dest n k m : ℕ) (a b : Stop) → IsSound p → stop_at p dest n k ≡ Some a
+        → next_stop p dest a ≡ Some b
         → neighbour p b.tile (out_of p dest b) ≡ Some m → out_rank p dest a < out_rank p dest b }
 {}
 
-/// Flit conservation. By every test of flits, so for each flit too, as many entered as were delivered and are still in lists,
-/// on links and in ejection places. No flit is delivered at another tile than the one that it names.
+/// Flit conservation. By every test of flits, so for each flit too, as many entered as were delivered and are still
+/// in lists, on links and in ejection places. No flit is delivered at another tile than the one that it names.
 pub fn conservation()
     ensures counts { (p : Plan) (d : ℕ) (test : Flit → Bool) (inputs : List Input) → IsSound p → d < length p.domains
         → count_by test (entered p d 0 (start p) inputs)
@@ -48,22 +52,26 @@ pub fn conservation()
         → All (λ (f : Flit). f.dest ≡ n) (delivered_to p d 0 (start p) inputs n) }
 {}
 
-/// Whole packets. What passes on each channel of an output, what enters by each local channel, and what is delivered at each
-/// tile is packets in a row, the last perhaps unfinished: a head comes first and right behind each tail, and the flits of a
-/// packet name one tile.
+/// Whole packets. What passes on each channel of an output, what enters by each local channel, and what is delivered
+/// at each tile is packets in a row, the last perhaps unfinished: a head comes first and right behind each tail, and
+/// the flits of a packet name one tile.
 pub fn whole_packets()
-    ensures sent { (p : Plan) (d : ℕ) (inputs : List Input) (n port w : ℕ) → IsSound p → d < length p.domains → n < tiles p
+    ensures sent { (p : Plan) (d : ℕ) (inputs : List Input) (n port w : ℕ) → IsSound p → d < length p.domains
+        → n < tiles p
         → AreWholePackets (sent_on p d 0 (start p) inputs n port w) }
-    ensures entered { (p : Plan) (d : ℕ) (inputs : List Input) (n c : ℕ) → AreWholePackets (entered_by p d 0 (start p) inputs n c) }
-    ensures delivered { (p : Plan) (d : ℕ) (inputs : List Input) (n : ℕ) → IsSound p → d < length p.domains → n < tiles p
+    ensures entered { (p : Plan) (d : ℕ) (inputs : List Input) (n c : ℕ)
+        → AreWholePackets (entered_by p d 0 (start p) inputs n c) }
+    ensures delivered { (p : Plan) (d : ℕ) (inputs : List Input) (n : ℕ) → IsSound p → d < length p.domains
+        → n < tiles p
         → AreWholePackets (delivered_to p d 0 (start p) inputs n) }
 {}
 
-/// Isolation of the plan. A domain's network reads nothing of a plan but the domain's own part: in two plans that have one own
-/// part of a domain the same inputs give the domain the same states, outputs and events.
+/// Isolation of the plan. A domain's network reads nothing of a plan but the domain's own part: in two plans that
+/// have one own part of a domain the same inputs give the domain the same states, outputs and events.
 pub fn own_part()
     ensures states { (p q : Plan) (d : ℕ) (inputs : List Input) → HaveOwnPart p q d → run p d inputs ≡ run q d inputs }
-    ensures outputs { (p q : Plan) (d : ℕ) (inputs : ℕ → Input) → HaveOwnPart p q d → outs p d inputs ≡ outs q d inputs }
+    ensures outputs { (p q : Plan) (d : ℕ) (inputs : ℕ → Input) → HaveOwnPart p q d
+        → outs p d inputs ≡ outs q d inputs }
     ensures events { (p q : Plan) (d : ℕ) (inputs : List Input) → HaveOwnPart p q d
         → events_from p d 0 (start p) inputs ≡ events_from q d 0 (start q) inputs }
 {}

@@ -1,10 +1,11 @@
 //! The plan of an on-chip network, and the definitions that every other part is proved against.
 //!
-//! A `Plan` keeps an accepted description: a mesh or torus of tiles, its domains, who hosts whom, the address ranges and
-//! the slots of the wave schedule. Contracts see it as the record of these lists, and `Plan::known` gives what holds of
-//! every plan. Its accessors answer exactly what the definitions in `specs/` say, and take no memory. `specs/` also has
-//! the network itself, one domain alone: what a tile keeps, its step, a run, its events and its report, and `laws` has
-//! what holds of every run. Whether a description is accepted, and all that runs or writes a network, stands above.
+//! A `Plan` keeps an accepted description: a mesh or torus of tiles, its domains, who hosts whom, the address ranges
+//! and the slots of the wave schedule. Contracts see it as the record of these lists, and `Plan::known` gives what
+//! holds of every plan. Its accessors answer exactly what the definitions in `specs/` say, and take no memory.
+//! `specs/` also has the network itself, one domain alone: what a tile keeps, its step, a run, its events and its
+//! report, and `laws` has what holds of every run. Whether a description is accepted, and all that runs or writes a
+//! network, stands above.
 #![tactic(auto)]
 
 mod copies;

@@ -45,7 +45,8 @@ pub struct Parts {
 impl Parts {
     ghost use Rattle.noc_model.specs.PlanOf.{plan_of};
 
-    /// The places for flits in the input buffers of a network of these parts, where every port counts as one with a link.
+    /// The places for flits in the input buffers of a network of these parts, where every port counts as one with a
+    /// link.
     pub fn places(&self) -> u32
         requires dims { length self.now.dims.items ≤ 3 }
         requires sides { AreSides self.now.dims.items }
@@ -232,7 +233,8 @@ impl Plan {
         requires tile { n < tiles self.now }
         requires dim { i < length self.now.dims }
         requires below { IfSome next (λ y. y < side self.now i) }
-        ensures value { result ≡ option_map (λ y. tile_in self.now.dims (slice_set (coords_in self.now.dims n) i y)) next }
+        ensures value { result ≡ option_map (λ y. tile_in self.now.dims (slice_set (coords_in self.now.dims n) i y))
+            next }
         ensures tile { IfSome result (λ m. m < tiles self.now) }
     {
         match next {
@@ -291,7 +293,8 @@ impl Plan {
         host_in(&self.parts.hosts, n, d)
     }
 
-    /// The tile that domain `d` reaches by the address: the one with a range that has it, where that tile hosts the domain.
+    /// The tile that domain `d` reaches by the address: the one with a range that has it, where that tile hosts the
+    /// domain.
     pub fn lookup(&self, d: u32, addr: u32) -> Option<u32>
         ensures { result ≡ lookup self.now d addr }
     {

@@ -17,7 +17,8 @@ IsHere p h = (h.domain < length p.domains) × (h.tile < tiles p)
 
 -- what a step's numbers need of the tile: its flits go to tiles, its packets by outputs that are there
 pub record IsFit (p : Plan) (h : Here) (s : Tile) : Type 0 where
-  pub flits : (port c : ℕ) → port < ports p → c < lanes p h.domain → All (λ (f : Flit). f.dest < tiles p) (s.queue port c)
+  pub flits : (port c : ℕ) → port < ports p → c < lanes p h.domain
+      → All (λ (f : Flit). f.dest < tiles p) (s.queue port c)
   pub stages : (port c : ℕ) → port < ports p → c < lanes p h.domain → HasOutput p h.domain h.tile (s.stage port c)
   pub current : s.current < channels p h.domain
   pub credits : (o w : ℕ) → o < ports p → w < lanes p h.domain → s.credits o w ≤ p.buffer + h.cycle

@@ -58,7 +58,8 @@ fn free_for(
     requires out { out < ports plan.now }
     requires port { port < ports plan.now }
     requires channel { channel < lanes plan.now here.domain }
-    ensures { result ≡ free_for plan.now here.domain here.tile (tile_of plan.now here.domain tile.now) out port channel }
+    ensures { result ≡ free_for plan.now here.domain here.tile (tile_of plan.now here.domain tile.now) out port
+        channel }
 {
     let class = channel / channels(plan, here.domain);
     free_channel(

@@ -52,7 +52,9 @@ fn arrivals(
 ) -> Result<Vec<Option<LinkFlit>>, AllocError>
     requires here { IsHere plan.now here }
     requires all { length net.now ≡ tiles plan.now }
-    ensures { IfOk result (λ v. v.items ≡ map (arrival plan.now (state_of plan.now here.domain net.now) here.tile) (range_with_len 0 (ports plan.now))) }
+    ensures { IfOk result (λ v. v.items
+        ≡ map (arrival plan.now (state_of plan.now here.domain net.now) here.tile)
+        (range_with_len 0 (ports plan.now))) }
 {
     let mut arrives = Vec::new(alloc);
     for port in 0..ports(plan) {
@@ -85,7 +87,9 @@ fn returns(
 ) -> Result<Vec<bool>, AllocError>
     requires here { IsHere plan.now here }
     requires all { length net.now ≡ tiles plan.now }
-    ensures { IfOk result (λ v. v.items ≡ by_rows (ports plan.now) (lanes plan.now here.domain) (return_of plan.now (state_of plan.now here.domain net.now) here.tile)) }
+    ensures { IfOk result (λ v. v.items
+        ≡ by_rows (ports plan.now) (lanes plan.now here.domain)
+        (return_of plan.now (state_of plan.now here.domain net.now) here.tile)) }
 {
     let width = lanes(plan, here.domain);
     let mut returns = Vec::new(alloc);
@@ -100,7 +104,8 @@ fn returns(
 fn offer_at<D: Drive>(plan: &Plan, here: Here, drive: &D) -> Option<Offer>
     requires count { D.count drive.now ≡ length plan.now.hosts }
     ensures { result ≡ (if hosts plan.now here.tile here.domain
-        then (driven plan.now here.domain (D.driver drive.now) (D.state drive.now) here.cycle).offer here.tile else None) }
+        then (driven plan.now here.domain (D.driver drive.now) (D.state drive.now) here.cycle).offer here.tile else
+            None) }
 {
     match plan.attach_of(here.tile, here.domain) {
         Some(j) => drive.offer(j, here.cycle),
@@ -179,7 +184,8 @@ pub(crate) fn next_tiles<D: Drive>(
     requires fit { (n : ℕ) → n < tiles plan.now
         → IsFit plan.now (record { domain = domain; tile = n; cycle = cycle }) (state_of plan.now domain net.now n) }
     ensures all { IfOk result (λ v. length v.items ≡ tiles plan.now) }
-    ensures steps { IfOk result (λ v. (n : ℕ) → n < tiles plan.now → IsSame plan.now domain (state_of plan.now domain v.items n)
+    ensures steps { IfOk result (λ v. (n : ℕ) → n < tiles plan.now
+        → IsSame plan.now domain (state_of plan.now domain v.items n)
         (step plan.now domain (pos cycle) (state_of plan.now domain net.now) (driven plan.now domain (D.driver drive.now) (D.state drive.now) cycle) n)) }
 {
     let mut next = Vec::new(alloc);

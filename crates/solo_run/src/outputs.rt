@@ -66,7 +66,8 @@ fn next_output(
     requires out { out < ports plan.now }
     requires channel { channel < lanes plan.now here.domain }
     requires cycle { here.cycle < most_cycles }
-    ensures { result ≡ output_in (stepped plan.now here (tile_of plan.now here.domain tile.now) (in_of plan.now here.domain fed.now)) out channel }
+    ensures { result
+        ≡ output_in (stepped plan.now here (tile_of plan.now here.domain tile.now) (in_of plan.now here.domain fed.now)) out channel }
 {
     plan.known();
     let sent = sent(plan, here, tile, fed, out);
@@ -114,7 +115,9 @@ fn next_place(
 ) -> Option<LinkFlit>
     requires here { IsHere plan.now here }
     requires fit { IsFit plan.now here (tile_of plan.now here.domain tile.now) }
-    ensures { result ≡ (stepped plan.now here (tile_of plan.now here.domain tile.now) (in_of plan.now here.domain fed.now)).row out i }
+    ensures { result
+        ≡ (stepped plan.now here (tile_of plan.now here.domain tile.now) (in_of plan.now here.domain fed.now)).row out
+        i }
 {
     if i == 0 {
         sent(plan, here, tile, fed, out)

@@ -42,7 +42,8 @@ fn next_pointers(plan: &Plan, here: Here, tile: &SoloTile, fed: &SoloFed, port: 
     requires here { IsHere plan.now here }
     requires fit { IsFit plan.now here (tile_of plan.now here.domain tile.now) }
     requires port { port < ports plan.now }
-    ensures { result ≡ pointers_in (stepped plan.now here (tile_of plan.now here.domain tile.now) (in_of plan.now here.domain fed.now)) port }
+    ensures { result
+        ≡ pointers_in (stepped plan.now here (tile_of plan.now here.domain tile.now) (in_of plan.now here.domain fed.now)) port }
 {
     let old = tile.pointers(port);
     Pointers {
@@ -62,7 +63,8 @@ pub(crate) fn all_pointers(
 ) -> Result<Vec<Pointers>, AllocError>
     requires here { IsHere plan.now here }
     requires fit { IsFit plan.now here (tile_of plan.now here.domain tile.now) }
-    ensures { IfOk result (λ v. v.items ≡ map (pointers_in (stepped plan.now here (tile_of plan.now here.domain tile.now) (in_of plan.now here.domain fed.now)))
+    ensures { IfOk result (λ v. v.items
+        ≡ map (pointers_in (stepped plan.now here (tile_of plan.now here.domain tile.now) (in_of plan.now here.domain fed.now)))
         (range_with_len 0 (ports plan.now))) }
 {
     let mut pointers = Vec::new(alloc);

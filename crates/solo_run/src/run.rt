@@ -21,7 +21,8 @@ use tile_drive::Drive;
 fn start_tiles(alloc: Global, plan: &Plan, domain: u32) -> Result<Vec<SoloTile>, AllocError>
     requires { domain < length plan.now.domains }
     ensures all { IfOk result (λ v. length v.items ≡ tiles plan.now) }
-    ensures start { IfOk result (λ v. (n : ℕ) → n < tiles plan.now → IsSame plan.now domain (state_of plan.now domain v.items n) (start plan.now n)) }
+    ensures start { IfOk result (λ v. (n : ℕ) → n < tiles plan.now
+        → IsSame plan.now domain (state_of plan.now domain v.items n) (start plan.now n)) }
 {
     let mut tiles = Vec::new(alloc);
     for _n in 0..plan.tiles() {
@@ -47,13 +48,15 @@ fn one_cycle<D: Drive>(
     requires fit { (n : ℕ) → n < tiles plan.now
         → IsFit plan.now (record { domain = d; tile = n; cycle = cycle }) (state_of plan.now d net.now n) }
     ensures events { OnOk result (events.new.items ≡ events.old.items
-        ++ cycle_events plan.now d cycle (state_of plan.now d net.now) (driven plan.now d (D.driver drive.old) (D.state drive.old) cycle)) }
+        ++ cycle_events plan.now d cycle (state_of plan.now d net.now)
+            (driven plan.now d (D.driver drive.old) (D.state drive.old) cycle)) }
     ensures all { IfOk result (λ v. length v.items ≡ tiles plan.now) }
     ensures steps { IfOk result (λ v. (n : ℕ) → n < tiles plan.now → IsSame plan.now d (state_of plan.now d v.items n)
         (step plan.now d (pos cycle) (state_of plan.now d net.now) (driven plan.now d (D.driver drive.old) (D.state drive.old) cycle) n)) }
     ensures count { D.count drive.new ≡ D.count drive.old }
     ensures driver { D.driver drive.new ≡ D.driver drive.old }
-    ensures states { OnOk result ((j : ℕ) → D.state drive.new j ≡ next_states plan.now d (D.driver drive.old) (D.state drive.old) cycle (state_of plan.now d net.now) j) }
+    ensures states { OnOk result ((j : ℕ) → D.state drive.new j
+        ≡ next_states plan.now d (D.driver drive.old) (D.state drive.old) cycle (state_of plan.now d net.now) j) }
 {
     add_events(events, plan, d, cycle, net, drive)?;
     let next = next_tiles(alloc, plan, d, cycle, net, drive)?;
@@ -72,7 +75,8 @@ pub fn solo_events<D: Drive>(
     requires there { d < length plan.now.domains }
     requires few { cycles ≤ most_cycles }
     requires count { D.count drive.old ≡ length plan.now.hosts }
-    ensures events { IfOk result (λ v. v.items ≡ driven_events plan.now d (D.driver drive.old) cycles 0 (start plan.now) (D.state drive.old)) }
+    ensures events { IfOk result (λ v. v.items
+        ≡ driven_events plan.now d (D.driver drive.old) cycles 0 (start plan.now) (D.state drive.old)) }
     ensures count { D.count drive.new ≡ D.count drive.old }
     ensures driver { D.driver drive.new ≡ D.driver drive.old }
 {

@@ -35,7 +35,8 @@ fn is_usable(owner: u32, domain: u32, credits: u32) -> bool
 fn takes(plan: &Plan, here: Here, tile: &SoloTile, fed: &SoloFed, out: u32, channel: u32) -> bool
     requires here { IsHere plan.now here }
     requires out { IsOutput plan.now here.tile out }
-    ensures { result ≡ takes plan.now here.domain here.tile (pos here.cycle) (tile_of plan.now here.domain tile.now) (in_of plan.now here.domain fed.now) out channel }
+    ensures { result ≡ takes plan.now here.domain here.tile (pos here.cycle) (tile_of plan.now here.domain tile.now)
+        (in_of plan.now here.domain fed.now) out channel }
 {
     if out == 0 {
         is_free(tile.ejected, fed.hears)
@@ -62,7 +63,8 @@ fn is_ready(
     requires fit { IsFit plan.now here (tile_of plan.now here.domain tile.now) }
     requires port { port < ports plan.now }
     requires channel { channel < lanes plan.now here.domain }
-    ensures { result ≡ is_ready plan.now here.domain here.tile (pos here.cycle) (tile_of plan.now here.domain tile.now) (in_of plan.now here.domain fed.now) port channel }
+    ensures { result ≡ is_ready plan.now here.domain here.tile (pos here.cycle)
+        (tile_of plan.now here.domain tile.now) (in_of plan.now here.domain fed.now) port channel }
 {
     match tile.stage(plan, here.domain, port, channel) {
         Stage::Active { out, to } => {
@@ -132,7 +134,8 @@ fn asked(plan: &Plan, here: Here, tile: &SoloTile, fed: &SoloFed, port: u32) -> 
     requires here { IsHere plan.now here }
     requires fit { IsFit plan.now here (tile_of plan.now here.domain tile.now) }
     requires port { port < ports plan.now }
-    ensures value { result ≡ asked plan.now here.domain here.tile (pos here.cycle) (tile_of plan.now here.domain tile.now) (in_of plan.now here.domain fed.now) port }
+    ensures value { result ≡ asked plan.now here.domain here.tile (pos here.cycle)
+        (tile_of plan.now here.domain tile.now) (in_of plan.now here.domain fed.now) port }
     ensures few { IfSome result (λ g. g.channel < 8) }
 {
     match picked(plan, here, tile, fed, port) {
@@ -186,7 +189,8 @@ pub(crate) fn chosen(
 ) -> Option<u32>
     requires here { IsHere plan.now here }
     requires fit { IsFit plan.now here (tile_of plan.now here.domain tile.now) }
-    ensures value { result ≡ chosen plan.now here.domain here.tile (pos here.cycle) (tile_of plan.now here.domain tile.now) (in_of plan.now here.domain fed.now) out }
+    ensures value { result ≡ chosen plan.now here.domain here.tile (pos here.cycle)
+        (tile_of plan.now here.domain tile.now) (in_of plan.now here.domain fed.now) out }
     ensures below { IfSome result (λ port. port < ports plan.now) }
     ensures few { IfSome result (λ port. port < 7) }
 {
@@ -220,7 +224,8 @@ pub(crate) fn grant(
     requires here { IsHere plan.now here }
     requires fit { IsFit plan.now here (tile_of plan.now here.domain tile.now) }
     requires port { port < ports plan.now }
-    ensures value { result ≡ grant plan.now here.domain here.tile (pos here.cycle) (tile_of plan.now here.domain tile.now) (in_of plan.now here.domain fed.now) port }
+    ensures value { result ≡ grant plan.now here.domain here.tile (pos here.cycle)
+        (tile_of plan.now here.domain tile.now) (in_of plan.now here.domain fed.now) port }
     ensures few { IfSome result (λ g. g.channel < 8) }
 {
     match asked(plan, here, tile, fed, port) {
@@ -252,7 +257,8 @@ pub(crate) fn leaves(
     requires here { IsHere plan.now here }
     requires fit { IsFit plan.now here (tile_of plan.now here.domain tile.now) }
     requires port { port < ports plan.now }
-    ensures { result ≡ leaves plan.now here.domain here.tile (pos here.cycle) (tile_of plan.now here.domain tile.now) (in_of plan.now here.domain fed.now) port channel }
+    ensures { result ≡ leaves plan.now here.domain here.tile (pos here.cycle) (tile_of plan.now here.domain tile.now)
+        (in_of plan.now here.domain fed.now) port channel }
 {
     is_channel(grant(plan, here, tile, fed, port), channel)
 }
@@ -275,7 +281,8 @@ fn sent_from(plan: &Plan, here: Here, tile: &SoloTile, fed: &SoloFed, port: u32)
     requires here { IsHere plan.now here }
     requires fit { IsFit plan.now here (tile_of plan.now here.domain tile.now) }
     requires port { port < ports plan.now }
-    ensures { result ≡ option_and_then (λ g. with_channel g.to (front ((tile_of plan.now here.domain tile.now).queue port g.channel)))
+    ensures { result ≡ option_and_then
+        (λ g. with_channel g.to (front ((tile_of plan.now here.domain tile.now).queue port g.channel)))
         (grant plan.now here.domain here.tile (pos here.cycle) (tile_of plan.now here.domain tile.now) (in_of plan.now here.domain fed.now) port) }
 {
     match grant(plan, here, tile, fed, port) {
@@ -295,7 +302,8 @@ pub(crate) fn sent(
 ) -> Option<LinkFlit>
     requires here { IsHere plan.now here }
     requires fit { IsFit plan.now here (tile_of plan.now here.domain tile.now) }
-    ensures { result ≡ sent plan.now here.domain here.tile (pos here.cycle) (tile_of plan.now here.domain tile.now) (in_of plan.now here.domain fed.now) out }
+    ensures { result ≡ sent plan.now here.domain here.tile (pos here.cycle) (tile_of plan.now here.domain tile.now)
+        (in_of plan.now here.domain fed.now) out }
 {
     match chosen(plan, here, tile, fed, out) {
         Some(port) => sent_from(plan, here, tile, fed, port),

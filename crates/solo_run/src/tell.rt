@@ -19,7 +19,8 @@ use tile_iface::ejected_of;
 
 /// Adds an event at a tile.
 fn add(events: &mut Vec<Event>, here: Here, kind: Kind) -> Result<(), AllocError>
-    ensures { OnOk result (events.new.items ≡ events.old.items ++ record { cycle = here.cycle; tile = here.tile; domain = here.domain; kind = kind } ∷ []) }
+    ensures { OnOk result (events.new.items
+        ≡ events.old.items ++ record { cycle = here.cycle; tile = here.tile; domain = here.domain; kind = kind } ∷ []) }
 {
     events.push(Event {
         cycle: here.cycle,
@@ -37,7 +38,8 @@ fn add_offer(
     ready: bool,
     offer: Option<Offer>,
 ) -> Result<(), AllocError>
-    ensures { OnOk result (events.new.items ≡ events.old.items ++ offer_events here.cycle here.tile here.domain ready offer) }
+    ensures { OnOk result (events.new.items
+        ≡ events.old.items ++ offer_events here.cycle here.tile here.domain ready offer) }
 {
     match offer {
         Some(word) if ready => add(
@@ -60,7 +62,8 @@ fn add_offer(
 
 /// Adds the drop pulse.
 fn add_drop(events: &mut Vec<Event>, here: Here, dropped: bool) -> Result<(), AllocError>
-    ensures { OnOk result (events.new.items ≡ events.old.items ++ drop_events here.cycle here.tile here.domain dropped) }
+    ensures { OnOk result (events.new.items
+        ≡ events.old.items ++ drop_events here.cycle here.tile here.domain dropped) }
 {
     if dropped {
         add(events, here, Kind::Drop)
@@ -76,7 +79,8 @@ fn add_got(
     hears: bool,
     flit: Option<Ejected>,
 ) -> Result<(), AllocError>
-    ensures { OnOk result (events.new.items ≡ events.old.items ++ got_events here.cycle here.tile here.domain hears flit) }
+    ensures { OnOk result (events.new.items
+        ≡ events.old.items ++ got_events here.cycle here.tile here.domain hears flit) }
 {
     match flit {
         Some(flit) if hears => add(events, here, Kind::Got { flit }),
@@ -98,7 +102,8 @@ fn add_at<D: Drive>(
     ensures { OnOk result (events.new.items ≡ events.old.items
         ++ (offer_events here.cycle here.tile here.domain (is_open plan.now (tile_of plan.now here.domain tile.now)) ((D.driver drive.now).offer j (D.state drive.now j) here.cycle)
         ++ drop_events here.cycle here.tile here.domain tile.now.dropped
-        ++ got_events here.cycle here.tile here.domain ((D.driver drive.now).hears j (D.state drive.now j) here.cycle) (ejected_of tile.now.ejected))) }
+        ++ got_events here.cycle here.tile here.domain ((D.driver drive.now).hears j (D.state drive.now j) here.cycle)
+            (ejected_of tile.now.ejected))) }
 {
     let ready = is_open(plan, here.domain, tile);
     add_offer(events, here, ready, drive.offer(j, here.cycle))?;
@@ -141,7 +146,8 @@ pub(crate) fn add_events<D: Drive>(
     requires all { length net.now ≡ tiles plan.now }
     requires count { D.count drive.now ≡ length plan.now.hosts }
     ensures { OnOk result (events.new.items ≡ events.old.items
-        ++ cycle_events plan.now domain cycle (state_of plan.now domain net.now) (driven plan.now domain (D.driver drive.now) (D.state drive.now) cycle)) }
+        ++ cycle_events plan.now domain cycle (state_of plan.now domain net.now)
+            (driven plan.now domain (D.driver drive.now) (D.state drive.now) cycle)) }
 {
     for tile in 0..plan.tiles() {
         let here = Here {
@@ -162,7 +168,8 @@ fn tell_at<D: Drive>(drive: &mut D, plan: &Plan, here: Here, j: u32, tile: &Solo
     ensures driver { D.driver drive.new ≡ D.driver drive.old }
     ensures state { D.state drive.new j ≡ after_got (D.driver drive.old) j
         (after_taken (D.driver drive.old) j (D.state drive.old j) here.cycle
-        (is_open plan.now (tile_of plan.now here.domain tile.now) && is_some ((D.driver drive.old).offer j (D.state drive.old j) here.cycle)))
+        (is_open plan.now (tile_of plan.now here.domain tile.now)
+            && is_some ((D.driver drive.old).offer j (D.state drive.old j) here.cycle)))
         here.cycle ((D.driver drive.old).hears j (D.state drive.old j) here.cycle) (ejected_of tile.now.ejected) }
     ensures others { (k : ℕ) → k ≢ j → D.state drive.new k ≡ D.state drive.old k }
 {
@@ -181,7 +188,9 @@ fn tell_one<D: Drive>(drive: &mut D, plan: &Plan, domain: u32, cycle: u32, net: 
     requires there { j < length plan.now.hosts }
     ensures count { D.count drive.new ≡ D.count drive.old }
     ensures driver { D.driver drive.new ≡ D.driver drive.old }
-    ensures state { D.state drive.new j ≡ next_states plan.now domain (D.driver drive.old) (D.state drive.old) cycle (state_of plan.now domain net.now) j }
+    ensures state { D.state drive.new j
+        ≡ next_states plan.now domain (D.driver drive.old) (D.state drive.old) cycle
+        (state_of plan.now domain net.now) j }
     ensures others { (k : ℕ) → k ≢ j → D.state drive.new k ≡ D.state drive.old k }
 {
     plan.known();
@@ -203,7 +212,9 @@ pub(crate) fn tell<D: Drive>(drive: &mut D, plan: &Plan, domain: u32, cycle: u32
     requires count { D.count drive.old ≡ length plan.now.hosts }
     ensures count { D.count drive.new ≡ D.count drive.old }
     ensures driver { D.driver drive.new ≡ D.driver drive.old }
-    ensures states { (j : ℕ) → D.state drive.new j ≡ next_states plan.now domain (D.driver drive.old) (D.state drive.old) cycle (state_of plan.now domain net.now) j }
+    ensures states { (j : ℕ) → D.state drive.new j
+        ≡ next_states plan.now domain (D.driver drive.old) (D.state drive.old) cycle
+        (state_of plan.now domain net.now) j }
 {
     for j in 0..plan.attach_count() {
         tell_one(drive, plan, domain, cycle, net, j);

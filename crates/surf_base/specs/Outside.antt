@@ -16,9 +16,11 @@ Rose old new = (old < new) ⊎ (18446744073709551615 ≤ new)
 abbrev pub appended : Option (List ℕ) → List ℕ → Option (List ℕ)
 appended written bytes = option_map (λ had. had ++ bytes) written
 
--- a read put the first `n` of the bytes that were left in front of the buffer, and left the others, where they are observed
+-- a read put the first `n` of the bytes that were left in front of the buffer, and left the others, where they are
+-- observed
 abbrev pub HandsOn : ℕ → List ℕ → Option (List ℕ) → Option (List ℕ) → Type 0
-HandsOn n buf old new = (bytes : List ℕ) → old ≡ Some bytes → (n ≤ length bytes) × (take n buf ≡ take n bytes) × (new ≡ Some (drop n bytes))
+HandsOn n buf old new = (bytes : List ℕ) → old ≡ Some bytes
+    → (n ≤ length bytes) × (take n buf ≡ take n bytes) × (new ≡ Some (drop n bytes))
 
 -- a read gave no bytes exactly where none were left, where they are observed
 abbrev pub EndsAt : ℕ → Option (List ℕ) → Type 0

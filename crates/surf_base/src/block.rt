@@ -110,8 +110,8 @@ impl Block {
         Block { items: None }
     }
 
-    /// Adds a piece, and hands on what is gathered where there is no room. On an error the sink has got a prefix of what
-    /// was gathered and the piece.
+    /// Adds a piece, and hands on what is gathered where there is no room. On an error the sink has got a prefix of
+    /// what was gathered and the piece.
     pub fn put<O: Sink>(&mut self, sink: &mut O, piece: &[u8]) -> Result<(), Failed>
         ensures { Writes result (stream (O.written sink.old) self.old (O.faults sink.old))
             (stream (O.written sink.new) self.new (O.faults sink.new)) piece.now }

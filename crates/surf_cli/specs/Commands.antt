@@ -10,7 +10,8 @@ use Rattle.surf_cli.specs.Jobs.{Schedule, Check, Routes, Simulate, Upgrade, Comm
 
 -- schedule DESC CYCLES
 abbrev pub schedule_words : List (List ℕ) → Option Command
-schedule_words (description ∷ cycles ∷ []) = option_map (λ n. command (file_of Description description ∷ []) (Schedule n)) (decimal_in table_cycles cycles)
+schedule_words (description ∷ cycles ∷ []) =
+    option_map (λ n. command (file_of Description description ∷ []) (Schedule n)) (decimal_in table_cycles cycles)
 schedule_words _ = None
 
 -- check DESC
@@ -26,7 +27,8 @@ routes_words _ = None
 -- simulate DESC TRACE CYCLES
 abbrev pub simulate_words : List (List ℕ) → Option Command
 simulate_words (description ∷ trace ∷ cycles ∷ []) =
-    option_map (λ n. command (file_of Description description ∷ file_of Trace trace ∷ []) (Simulate n)) (decimal_in most_cycles cycles)
+    option_map (λ n. command (file_of Description description ∷ file_of Trace trace ∷ []) (Simulate n))
+        (decimal_in most_cycles cycles)
 simulate_words _ = None
 
 -- upgrade DESC

@@ -62,4 +62,5 @@ line_of TooLong = codes "surf: file too long\n"
 
 -- a line is on a sink, whose count of faults didn't fall; where the sink failed, a prefix of it
 abbrev pub Says : List ℕ → Option (List ℕ) → Option (List ℕ) → ℕ → ℕ → Type 0
-Says line old new faults faults' = (faults ≤ faults') × ((new ≡ appended old line) ⊎ (GotPrefix old new line × Rose faults faults'))
+Says line old new faults faults' = (faults ≤ faults')
+    × ((new ≡ appended old line) ⊎ (GotPrefix old new line × Rose faults faults'))

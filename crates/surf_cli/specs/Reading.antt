@@ -29,7 +29,8 @@ IsCause files fault.TooLong held faults faults' taken = PassesLimit taken files
 IsCause files (fault.Memory refused) held faults faults' taken = Unit {0}
 
 -- the files were read, in order, and with what they hold the contents are these
-pub record GotFiles (files : List NamedFile) (held held' : List ℕ → Held) (faults faults' taken : ℕ) (got got' : Contents) : Type 0 where
+pub record GotFiles (files : List NamedFile) (held held' : List ℕ → Held) (faults faults' taken : ℕ)
+    (got got' : Contents) : Type 0 where
   pub stays : held' ≡ held
   pub counts : faults ≤ faults'
   pub within : WithinLast taken files
@@ -38,17 +39,20 @@ pub record GotFiles (files : List NamedFile) (held held' : List ℕ → Held) (f
   pub meant : (next : Contents → Outcome) → with_files files contents got next ≡ next got'
 
 -- one of the files was not read: a command comes to an end so, whatever it would have gone on to
-pub record GotNone (files : List NamedFile) (held held' : List ℕ → Held) (faults faults' taken : ℕ) (fault : TakeFault) : Type 0 where
+pub record GotNone (files : List NamedFile) (held held' : List ℕ → Held) (faults faults' taken : ℕ)
+    (fault : TakeFault) : Type 0 where
   pub stays : held' ≡ held
   pub counts : faults ≤ faults'
   pub some : files ≢ []
   pub cause : IsCause files fault held faults faults' taken
   pub contents : List (Option (List ℕ))
   pub observed : MayHoldAll held files contents
-  pub meant : (got : Contents) (next : Contents → Outcome) → StopsAt (with_files files contents got next) fault faults faults'
+  pub meant : (got : Contents) (next : Contents → Outcome)
+      → StopsAt (with_files files contents got next) fault faults faults'
 
 -- a file was read
-pub record GotFile (file : NamedFile) (held held' : List ℕ → Held) (faults faults' taken : ℕ) (bytes : List ℕ) : Type 0 where
+pub record GotFile (file : NamedFile) (held held' : List ℕ → Held) (faults faults' taken : ℕ) (bytes : List ℕ)
+    : Type 0 where
   pub stays : held' ≡ held
   pub counts : faults ≤ faults'
   pub within : taken ≤ limit_of file.kind
@@ -56,7 +60,8 @@ pub record GotFile (file : NamedFile) (held held' : List ℕ → Held) (faults f
   pub short : length bytes ≤ limit_of file.kind
 
 -- a file was not read
-pub record NotGot (file : NamedFile) (held held' : List ℕ → Held) (faults faults' taken : ℕ) (fault : TakeFault) : Type 0 where
+pub record NotGot (file : NamedFile) (held held' : List ℕ → Held) (faults faults' taken : ℕ)
+    (fault : TakeFault) : Type 0 where
   pub stays : held' ≡ held
   pub counts : faults ≤ faults'
   pub cause : IsCause (file ∷ []) fault held faults faults' taken

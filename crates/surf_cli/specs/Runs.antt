@@ -10,8 +10,8 @@ use Rattle.surf_cli.specs.Commands.{files_named}
 use Rattle.surf_cli.specs.Lines.{Says, IsOfContents, line_of, status_of}
 use Rattle.surf_cli.specs.Meaning.{IsRight, Outcome, Does, Stops, end_of, meaning}
 
--- The outside at a moment: what is observed of each name, the bytes taken since the last opening and the count of faults of
--- the files; what the sink has, where that is observed, and its count of faults.
+-- The outside at a moment: what is observed of each name, the bytes taken since the last opening and the count of
+-- faults of the files; what the sink has, where that is observed, and its count of faults.
 pub record Outside : Type 0 where
   pub held : List ℕ → Held
   pub taken : ℕ
@@ -61,7 +61,8 @@ abbrev pub DeliveredPrefix : Outcome → Option (List ℕ) → Option (List ℕ)
 DeliveredPrefix (Does work) old new = (bytes : List ℕ) × IsRight work bytes × GotPrefix old new bytes
 DeliveredPrefix (Stops end) old new = ⊥
 
--- A run ends so that comes to m: it ends as m says and has written what m says, but for failures of the outside and of memory.
+-- A run ends so that comes to m: it ends as m says and has written what m says, but for failures of the outside and
+-- of memory.
 abbrev pub IsMeant : Outcome → End → Outside → Outside → Type 0
 IsMeant m Good old new = (end_of m ≡ Good) × Delivered m old.written new.written
 IsMeant m Write old new = DeliveredPrefix m old.written new.written
@@ -78,9 +79,9 @@ HasCause files Write old new = Rose old.faults new.faults × WithinLast new.take
 HasCause files TooLong old new = PassesLimit new.taken files
 HasCause files _ old new = Unit {0}
 
--- What a run says: words that are no command are refused, and no others; what is held stays, and counts do not fall; the
--- end has its cause; and end and bytes are the command's meaning over contents that agree with all that is observed of its
--- files, but for failures of the outside and of memory.
+-- What a run says: words that are no command are refused, and no others; what is held stays, and counts do not fall;
+-- the end has its cause; and end and bytes are the command's meaning over contents that agree with all that is
+-- observed of its files, but for failures of the outside and of memory.
 pub record Runs (command : Option Command) (old : Outside) (end : End) (new : Outside) : Type 0 where
   pub usage : (end ≡ Usage) ↔ (command ≡ None)
   pub held : new.held ≡ old.held
@@ -92,14 +93,17 @@ pub record Runs (command : Option Command) (old : Outside) (end : End) (new : Ou
   pub meant : IsMeant (meaning command contents) end old new
 
 -- a run of the program: it ends with a status, whose line is on the error stream
-pub record Ends (command : Option Command) (old : Outside) (status : Status) (new : Outside) (said said' : Option (List ℕ)) (faults faults' : ℕ) : Type 0 where
+pub record Ends (command : Option Command) (old : Outside) (status : Status) (new : Outside)
+    (said said' : Option (List ℕ)) (faults faults' : ℕ) : Type 0 where
   pub end : End
   pub is : status ≡ status_of end
   pub runs : Runs command old end new
   pub line : Says (line_of end) said said' faults faults'
 
--- The status, the bytes and the line are the command's meaning over contents that agree with all that is observed of its files.
-pub record Completes (command : Option Command) (held : List ℕ → Held) (status : Status) (old new said said' : Option (List ℕ)) (faults faults' : ℕ) : Type 0 where
+-- The status, the bytes and the line are the command's meaning over contents that agree with all that is observed of
+-- its files.
+pub record Completes (command : Option Command) (held : List ℕ → Held) (status : Status)
+    (old new said said' : Option (List ℕ)) (faults faults' : ℕ) : Type 0 where
   pub contents : List (Option (List ℕ))
   pub observed : MayHoldAll held (files_named command) contents
   pub is : status ≡ status_of (end_of (meaning command contents))

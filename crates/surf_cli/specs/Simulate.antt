@@ -14,7 +14,8 @@ use Rattle.surf_cli.specs.Texts.{texts_below}
 
 -- the plans whose networks are simulated so far: one tile of a mesh with one side, and one channel for each domain
 abbrev pub is_built : Plan → Bool
-is_built p = not p.torus && ((length p.dims == 1) && ((tiles p == 1) && list_all (λ (x : DomainPart). x.channels == 1) p.domains))
+is_built p = not p.torus && ((length p.dims == 1)
+    && ((tiles p == 1) && list_all (λ (x : DomainPart). x.channels == 1) p.domains))
 
 -- the events of domain d among these
 abbrev pub events_of : List Event → ℕ → List Event

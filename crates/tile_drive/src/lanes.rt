@@ -153,7 +153,8 @@ pub(crate) fn lanes_of(
 ) -> Result<Vec<Lane>, AllocError>
     ensures count { IfOk result (λ lanes. length lanes.items ≡ count) }
     ensures due { IfOk result (λ lanes. (j : ℕ) → j < count → due_at lanes.items j ≡ due_in entries.now j) }
-    ensures deaf { IfOk result (λ lanes. (j t : ℕ) → j < count → is_deaf (spans_at lanes.items j) t ≡ is_deaf (spans_in entries.now j) t) }
+    ensures deaf { IfOk result (λ lanes. (j t : ℕ) → j < count
+        → is_deaf (spans_at lanes.items j) t ≡ is_deaf (spans_in entries.now j) t) }
     ensures settled { IfOk result (λ lanes. AreAllSettled lanes.items) }
 {
     let mut lanes = gathered(alloc, count, entries)?;

@@ -1,9 +1,9 @@
 //! What drives the attachments of a network, and what happens at them.
 //!
-//! A [`Drive`] offers words at each attachment, hears what is given out there, and is notified of what was taken and got. Its
-//! contract is four functions over a state for each attachment, so that a run may be stated over any driver. [`Seen`]
-//! keeps what one cycle shows at each attachment, and [`Events`] what happened in all cycles, in order. How a network
-//! answers an offer, and how events are printed, is left to the parts above.
+//! A [`Drive`] offers words at each attachment, hears what is given out there, and is notified of what was taken and
+//! got. Its contract is four functions over a state for each attachment, so that a run may be stated over any driver.
+//! [`Seen`] keeps what one cycle shows at each attachment, and [`Events`] what happened in all cycles, in order. How
+//! a network answers an offer, and how events are printed, is left to the parts above.
 #![tactic(auto)]
 
 mod cycle_seen;

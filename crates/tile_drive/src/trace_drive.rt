@@ -12,9 +12,9 @@ use noc_model::{Driving, Plan};
 use std::alloc::{AllocError, Global};
 use trace_read::Trace;
 
-/// Drives by a trace: the words of each attachment's sends are offered in order, each from its send's cycle on until it is
-/// taken, and an attachment is deaf in the cycles of its holds. It takes no memory once it is made, and a call of `hears`
-/// takes time by the logarithm of the number of the attachment's holds.
+/// Drives by a trace: the words of each attachment's sends are offered in order, each from its send's cycle on until
+/// it is taken, and an attachment is deaf in the cycles of its holds. It takes no memory once it is made, and a call
+/// of `hears` takes time by the logarithm of the number of the attachment's holds.
 #[derive(Drop)]
 pub struct TraceDrive {
     lanes: Vec<Lane>,
@@ -27,7 +27,8 @@ impl TraceDrive {
     /// The driver of the trace at the plan's attachments, none of whose words was taken.
     pub fn new(alloc: Global, plan: &Plan, trace: &Trace) -> Result<TraceDrive, AllocError>
         ensures count { IfOk result (λ drive. ⟦<TraceDrive as Driving>⟧.count drive ≡ length plan.now.hosts) }
-        ensures driver { IfOk result (λ drive. ⟦<TraceDrive as Driving>⟧.driver drive ≡ trace_driver plan.now trace.now) }
+        ensures driver { IfOk result (λ drive. ⟦<TraceDrive as Driving>⟧.driver drive
+            ≡ trace_driver plan.now trace.now) }
         ensures state { IfOk result (λ drive. (j : ℕ) → ⟦<TraceDrive as Driving>⟧.state drive j ≡ untaken) }
     {
         let count = plan.attach_count();

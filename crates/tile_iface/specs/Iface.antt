@@ -8,8 +8,8 @@ use Rattle.noc_model.specs.declared.Packet.TheVariants.{Between}
 use Rattle.noc_model.specs.Plan.{Plan, channels}
 use Rattle.noc_model.specs.Step.{is_ready_packet, entry, next_packet, is_dropped, next_current, next_ejected, with_channel}
 
--- the attachment of a domain with so many channels of the local input: the packet that its words are of, the channel that the
--- next word goes to, the drop pulse and the ejection place
+-- the attachment of a domain with so many channels of the local input: the packet that its words are of, the channel
+-- that the next word goes to, the drop pulse and the ejection place
 pub record Attached : Type 0 where
   pub domain : ℕ
   pub channels : ℕ
@@ -20,7 +20,8 @@ pub record Attached : Type 0 where
 
 -- the start: nothing is on its way
 abbrev pub start_attached : Plan → ℕ → Attached
-start_attached p d = record { domain = d; channels = channels p d; packet = Between; current = 0; dropped = false; ejected = None }
+start_attached p d = record { domain = d; channels = channels p d; packet = Between; current = 0; dropped = false;
+    ejected = None }
 
 -- the attachment is of a domain of this plan
 abbrev pub IsOf : Plan → Attached → Type 0

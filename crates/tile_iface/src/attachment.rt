@@ -10,8 +10,8 @@ use flit_word::{Ejected, Flit, Offer};
 use noc_model::{Packet, Plan};
 use std::marker::Model;
 
-/// What a tile keeps for the attachment of a domain that it hosts: the packet that its words are of, the channel of the local
-/// input that the next word goes to, the drop pulse, and the ejection place.
+/// What a tile keeps for the attachment of a domain that it hosts: the packet that its words are of, the channel of
+/// the local input that the next word goes to, the drop pulse, and the ejection place.
 pub struct Iface {
     domain: u32,
     channels: u32,
@@ -57,11 +57,12 @@ impl Iface {
         is_ready_packet(self.packet, lengths[self.current as usize] as usize, plan.buffer())
     }
 
-    /// Takes the word that is offered, if it is ready, and gives the channel of the local input and the flit that enters there:
-    /// None exactly where no word was taken, or it was dropped.
+    /// Takes the word that is offered, if it is ready, and gives the channel of the local input and the flit that
+    /// enters there: None exactly where no word was taken, or it was dropped.
     pub fn step(&mut self, plan: &Plan, ready: bool, offer: Option<Offer>) -> Option<(u32, Flit)>
         requires { IsOf plan.now self.old }
-        ensures result { result ≡ option_map (λ flit. (self.old.current, flit)) (entering plan.now ready offer self.old) }
+        ensures result { result ≡ option_map (λ flit. (self.old.current, flit))
+            (entering plan.now ready offer self.old) }
         ensures self { self.new ≡ after_word plan.now ready offer self.old }
     {
         let word = if ready { offer } else { None };
@@ -88,8 +89,8 @@ impl Iface {
         ejected_of(self.ejected)
     }
 
-    /// One cycle of the ejection place: a flit that is ejected takes it, and one that is heard leaves it. A flit needs a place
-    /// that is empty or heard.
+    /// One cycle of the ejection place: a flit that is ejected takes it, and one that is heard leaves it. A flit
+    /// needs a place that is empty or heard.
     pub fn eject(&mut self, heard: bool, flit: Option<Flit>)
         requires room { IsSome flit → (is_none self.old.ejected || heard) ≡ true }
         ensures { self.new ≡ after_flit heard flit self.old }

@@ -8,8 +8,8 @@ ghost use Rattle.noc_model.specs.Events.{ejected_of};
 use flit_word::{Ejected, Flit, Offer};
 use noc_model::{Packet, Plan};
 
-/// Whether a word is taken, where `count` flits are in the buffer that it goes to, of `buffer` slots: always while the packet
-/// is dropped.
+/// Whether a word is taken, where `count` flits are in the buffer that it goes to, of `buffer` slots: always while
+/// the packet is dropped.
 pub fn is_ready_packet(packet: Packet, count: usize, buffer: u32) -> bool
     ensures { result ≡ is_ready_packet packet count buffer }
 {
@@ -68,7 +68,8 @@ pub fn is_dropped(plan: &Plan, domain: u32, packet: Packet, word: Option<Offer>)
     }
 }
 
-/// The channel of the local input that the next word goes to: a tail moves on to the next of the domain's `count` channels.
+/// The channel of the local input that the next word goes to: a tail moves on to the next of the domain's `count`
+/// channels.
 pub fn next_current(count: u32, current: u32, entry: Option<Flit>) -> u32
     requires current { current < count }
     ensures next { (p : Plan) (d : ℕ) → channels p d ≡ count → result ≡ next_current p d current entry }

@@ -8,7 +8,8 @@ use Rattle.trace_read.specs.declared.fault.TraceFault.TheVariants.{Syntax, Numbe
 use Rattle.trace_read.specs.Text.{is_plain, fields}
 use Rattle.trace_read.specs.Entries.{field, is_skipped, is_send, is_hold, number, number_of, domain_named}
 
--- a byte that is neither a tab nor printable, or too few fields, or neither a send nor a hold, or a hold of too many fields
+-- a byte that is neither a tab nor printable, or too few fields, or neither a send nor a hold, or a hold of too many
+-- fields
 abbrev pub is_misformed : List ℕ → List (List ℕ) → Bool
 is_misformed line fs =
     not (list_all is_plain line)
@@ -22,7 +23,8 @@ has_no_word fs = list_any (λ f. is_none (hex_in f)) fs
 abbrev pub is_misspelled : List (List ℕ) → Bool
 is_misspelled fs =
     is_none (number (field fs 0))
-    || (is_none (number (field fs 1)) || (if is_send fs then has_no_word (drop 4 fs) else is_none (number (field fs 4))))
+    || (is_none (number (field fs 1))
+        || (if is_send fs then has_no_word (drop 4 fs) else is_none (number (field fs 4))))
 
 -- no tile has this number
 abbrev pub is_outside : Plan → ℕ → Bool
@@ -52,7 +54,8 @@ first_of (x ∷ xs) = if x.0 then Some x.1 else first_of xs
 -- the faults of where an entry goes, and then more
 abbrev pub place_faults : Plan → ℕ → ℕ → List ℕ → List (Bool × TraceFault) → List (Bool × TraceFault)
 place_faults p n tile name more =
-    (is_outside p tile, TileRange n) ∷ (is_unknown p name, DomainUnknown n) ∷ (is_not_hosted p tile name, NotHosted n) ∷ more
+    (is_outside p tile, TileRange n) ∷ (is_unknown p name, DomainUnknown n) ∷ (is_not_hosted p tile name, NotHosted n)
+        ∷ more
 
 -- the faults of the fields of a line that is formed
 abbrev pub field_faults : Plan → ℕ → List (List ℕ) → List (Bool × TraceFault)

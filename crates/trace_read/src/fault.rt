@@ -5,16 +5,16 @@ ghost use Rattle.std.specs.Prelude.{◌≡◌};
 use std::alloc::AllocError;
 use thiserror::Error;
 
-/// Why a trace gives no entries. A line counts from 1, and is the first one that is faulty; the fault is the first of these
-/// that holds on it.
+/// Why a trace gives no entries. A line counts from 1, and is the first one that is faulty; the fault is the first of
+/// these that holds on it.
 #[derive(Debug, Drop, Clone, Copy, PartialEq, Eq, Error)]
 pub enum TraceFault {
-    /// A byte that is neither a tab nor printable ASCII, or fewer than 5 fields, or a fourth field other than `send` and
-    /// `hold`, or a `hold` of more than 5 fields.
+    /// A byte that is neither a tab nor printable ASCII, or fewer than 5 fields, or a fourth field other than `send`
+    /// and `hold`, or a `hold` of more than 5 fields.
     #[error("line {line}: expected `CYCLE TILE DOMAIN send ADDRESS WORD ..` or `CYCLE TILE DOMAIN hold COUNT`")]
     Syntax { line: u64 },
-    /// A cycle, tile or count that isn't 1 to 10 decimal digits up to 4294967295, or an address or word that isn't 1 to 8
-    /// hexadecimal digits.
+    /// A cycle, tile or count that isn't 1 to 10 decimal digits up to 4294967295, or an address or word that isn't 1
+    /// to 8 hexadecimal digits.
     #[error("line {line}: a number is not spelled as one")]
     Number { line: u64 },
     /// The plan has no such tile.

@@ -37,8 +37,8 @@ fn put_told(buf: &mut [u8], place: Option<(u64, u64)>) -> usize
     }
 }
 
-/// Writes the line that tells a fault, with its LF, to the front of `buf`, and answers its length in bytes: `surf: trace
-/// fault N line L`. Where memory ran out it is `surf: no memory`.
+/// Writes the line that tells a fault, with its LF, to the front of `buf`, and answers its length in bytes: `surf:
+/// trace fault N line L`. Where memory ran out it is `surf: no memory`.
 pub fn fault_line(fault: &TraceFault, buf: &mut [u8; 96]) -> usize
     ensures written { take result buf.new ≡ line_of fault.now }
     ensures fits { result ≤ 96 }

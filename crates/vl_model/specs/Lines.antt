@@ -24,7 +24,8 @@ leaf_lines l = heading l.name ∷ (map port l.ports ++ map item l.items)
 abbrev pub top_lines : Top → List Line
 top_lines t = heading (codes "noc") ∷ (map port t.ports ++ map joint t.items)
 
--- a line, with what stands around it: the leaves before its module, all lines of its module, and those of them before it
+-- a line, with what stands around it: the leaves before its module, all lines of its module, and those of them before
+-- it
 pub record Site : Type 0 where
   pub leaves : List Leaf
   pub lines : List Line
@@ -35,7 +36,8 @@ pub record Site : Type 0 where
 abbrev pub sites_behind : List Leaf → List Line → List Line → List Line → List Site
 sites_behind leaves lines before [] = []
 sites_behind leaves lines before (x ∷ xs) =
-    record { leaves = leaves; lines = lines; before = before; line = x } ∷ sites_behind leaves lines (before ++ x ∷ []) xs
+    record { leaves = leaves; lines = lines; before = before; line = x }
+        ∷ sites_behind leaves lines (before ++ x ∷ []) xs
 
 -- the lines of a module with what stands around them
 abbrev pub module_sites : List Leaf → List Line → List Site

@@ -40,7 +40,8 @@ is_kind test lines n = kind_passes test (lookup lines n)
 
 -- each net and each memory that the expression reads is declared as one
 abbrev pub knows : List Line → Expr → Bool
-knows lines e = list_all (is_kind is_net lines) (nets_of e) && list_all (λ (u : Use). is_kind is_memory lines u.memory) (uses_of e)
+knows lines e = list_all (is_kind is_net lines) (nets_of e)
+    && list_all (λ (u : Use). is_kind is_memory lines u.memory) (uses_of e)
 
 -- an output port is joined to what may be driven, and an input port to any net
 abbrev pub joins_known : List Line → Name → Option Port → Bool
@@ -61,7 +62,8 @@ line_known leaves before (item (reg h n)) = true
 line_known leaves before (item (mem h n last)) = true
 line_known leaves before (item (assign n e)) = is_kind is_driven before n && knows before e
 line_known leaves before (item (clocked n k e)) = is_kind is_register before n && knows before e
-line_known leaves before (item (store c n i e)) = is_kind is_memory before n && (knows before c && (knows before i && knows before e))
+line_known leaves before (item (store c n i e)) =
+    is_kind is_memory before n && (knows before c && (knows before i && knows before e))
 line_known leaves before (joint (Wire h n)) = true
 line_known leaves before (joint (Instance l n joins)) = instance_known before joins (leaf_named leaves l)
 
@@ -90,7 +92,8 @@ line_fits leaves w (item (reg h n)) = nat_lt h 64
 line_fits leaves w (item (mem h n last)) = nat_lt h 64
 line_fits leaves w (item (assign n e)) = agrees w e && (width_of w e == w.net n)
 line_fits leaves w (item (clocked n k e)) = agrees w e && ((width_of w e == w.net n) && (k.width == w.net n))
-line_fits leaves w (item (store c n i e)) = agrees w c && ((width_of w c == 1) && (agrees w i && (agrees w e && (width_of w e == w.word n))))
+line_fits leaves w (item (store c n i e)) = agrees w c
+    && ((width_of w c == 1) && (agrees w i && (agrees w e && (width_of w e == w.word n))))
 line_fits leaves w (joint (Wire h n)) = nat_lt h 64
 line_fits leaves w (joint (Instance l n joins)) = instance_fits w joins (leaf_named leaves l)
 
@@ -266,7 +269,8 @@ pub record IsSoundLeaf (l : Leaf) : Type 0 where
 
 -- all but that each declared name has a driver
 abbrev pub early_rules : List Rule
-early_rules = (NameTwice, name_twice) ∷ (NameUnknown, name_unknown) ∷ (Width, wrong_width) ∷ (Order, wrong_order) ∷ (Mealy, goes_through) ∷ (MemSize, wrong_size) ∷ []
+early_rules = (NameTwice, name_twice) ∷ (NameUnknown, name_unknown) ∷ (Width, wrong_width) ∷ (Order, wrong_order)
+    ∷ (Mealy, goes_through) ∷ (MemSize, wrong_size) ∷ []
 
 -- a leaf so far: what it declares may be undriven, but nothing is driven twice
 pub record IsTidy (l : Leaf) : Type 0 where

@@ -34,7 +34,8 @@ abbrev pub deep_at : ℕ → Reader Expr → Reader Expr
 deep_at d below = deeper d (either (is_mark (codes "(")) (group_at below) (cat_at below))
 
 abbrev pub inside_at : Reader Expr → Reader Expr
-inside_at below = either (is_mark (codes "~")) (made complement (opened (codes "~") below)) (made (λ x. reading.rest_of x.0 x.1) (both below (λ a. rest_at below)))
+inside_at below = either (is_mark (codes "~")) (made complement (opened (codes "~") below))
+    (made (λ x. reading.rest_of x.0 x.1) (both below (λ a. rest_at below)))
 
 abbrev pub part_at : Reader Expr → Reader Expr
 part_at below = opened (codes ",") below

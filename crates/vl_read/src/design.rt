@@ -28,14 +28,16 @@ pub fn read_design(alloc: Global, bytes: &[u8]) -> Result<Design, TextFault>
     // What is read is spelled so.
     ensures ok { IfOk result (λ d. Spells bytes.now (views.read_design d)) }
     // What is spelled is read, unless memory runs out.
-    ensures complete { (d : values.Design) → Spells bytes.now d → MatchResult result (λ r. views.read_design r ≡ d) IsMemory }
+    ensures complete { (d : values.Design) → Spells bytes.now d
+        → MatchResult result (λ r. views.read_design r ≡ d) IsMemory }
     // A fault is the first one, at its place.
     ensures err { IfErr result (λ e. MemoryOr e (IsReadFault bytes.now e)) }
     // The first faults of the bytes and of the tokens are always found.
     ensures byte { (n : ℕ) → ByteFault bytes.now n → result ≡ Err (faults.Byte n) }
     ensures token { (n : ℕ) → TokenFault bytes.now n → result ≡ Err (faults.Token n) }
     // So is that of the grammar, unless memory runs out.
-    ensures grammar { (n : ℕ) → GrammarFault bytes.now n → MatchResult result (λ _. ⊥) (λ e. MemoryOr e (e ≡ faults.Grammar n)) }
+    ensures grammar { (n : ℕ) → GrammarFault bytes.now n
+        → MatchResult result (λ _. ⊥) (λ e. MemoryOr e (e ≡ faults.Grammar n)) }
 {
     let len = bytes.len();
     let clean = text_len(bytes);

@@ -63,7 +63,8 @@ fn joined(alloc: Global, a: Expr, rest: Rest) -> Result<Expr, AllocError>
     }
 }
 
-#[tactic(auto, unfolding(vl_tree::specs::Reading::both, vl_tree::specs::Reading::made, vl_tree::specs::Reading::either, vl_tree::specs::Reading::numbers_at))]
+#[tactic(auto, unfolding(vl_tree::specs::Reading::both, vl_tree::specs::Reading::made, vl_tree::specs::Reading::either,
+    vl_tree::specs::Reading::numbers_at))]
 fn numbers<'a>(ts: Ahead<'a>) -> Result<(Pick, Ahead<'a>), ReadError>
     ensures { Gives (λ x. (pick_of x.0, placed x.1)) result (reading.numbers_at (placed ts.entry)) }
 {
@@ -90,9 +91,11 @@ fn expr<'a>(alloc: Global, ts: Ahead<'a>, depth: u32) -> Result<(Expr, Ahead<'a>
 }
 
 #[cycle(expr)]
-#[tactic(auto, unfolding(vl_tree::specs::Reading::level_at, vl_tree::specs::Reading::either, vl_tree::specs::Reading::made))]
+#[tactic(auto, unfolding(vl_tree::specs::Reading::level_at, vl_tree::specs::Reading::either,
+    vl_tree::specs::Reading::made))]
 fn level<'a>(alloc: Global, ts: Ahead<'a>, depth: u32) -> Result<(Expr, Ahead<'a>), ReadError>
-    ensures { Gives (λ x. (read x.0, placed x.1)) result (reading.level_at depth (reading.expr_at depth) (placed ts.entry)) }
+    ensures { Gives (λ x. (read x.0, placed x.1)) result
+        (reading.level_at depth (reading.expr_at depth) (placed ts.entry)) }
 {
     if at_name(ts) {
         return named(alloc, ts, depth);
@@ -107,7 +110,8 @@ fn level<'a>(alloc: Global, ts: Ahead<'a>, depth: u32) -> Result<(Expr, Ahead<'a
 #[cycle(expr)]
 #[tactic(auto, unfolding(vl_tree::specs::Reading::both, vl_tree::specs::Reading::made))]
 fn named<'a>(alloc: Global, ts: Ahead<'a>, depth: u32) -> Result<(Expr, Ahead<'a>), ReadError>
-    ensures { Gives (λ x. (read x.0, placed x.1)) result (picks.named_at depth (reading.expr_at depth) (placed ts.entry)) }
+    ensures { Gives (λ x. (read x.0, placed x.1)) result
+        (picks.named_at depth (reading.expr_at depth) (placed ts.entry)) }
 {
     let (n, ts) = name(alloc, ts)?;
     let (pick, ts) = behind_name(alloc, ts, depth)?;
@@ -115,9 +119,11 @@ fn named<'a>(alloc: Global, ts: Ahead<'a>, depth: u32) -> Result<(Expr, Ahead<'a
 }
 
 #[cycle(expr)]
-#[tactic(auto, unfolding(vl_tree::specs::Reading::pick_at, vl_tree::specs::Reading::either, vl_tree::specs::Reading::both, vl_tree::specs::Reading::made, vl_tree::specs::Reading::nothing))]
+#[tactic(auto, unfolding(vl_tree::specs::Reading::pick_at, vl_tree::specs::Reading::either,
+    vl_tree::specs::Reading::both, vl_tree::specs::Reading::made, vl_tree::specs::Reading::nothing))]
 fn behind_name<'a>(alloc: Global, ts: Ahead<'a>, depth: u32) -> Result<(Pick, Ahead<'a>), ReadError>
-    ensures { Gives (λ x. (pick_of x.0, placed x.1)) result (reading.pick_at depth (reading.expr_at depth) (placed ts.entry)) }
+    ensures { Gives (λ x. (pick_of x.0, placed x.1)) result
+        (reading.pick_at depth (reading.expr_at depth) (placed ts.entry)) }
 {
     if !at_mark(ts, b"[") {
         return Ok((Pick::Whole, ts));
@@ -127,9 +133,11 @@ fn behind_name<'a>(alloc: Global, ts: Ahead<'a>, depth: u32) -> Result<(Pick, Ah
 }
 
 #[cycle(expr)]
-#[tactic(auto, using(crate::proofs::Levels::deeper_none, crate::proofs::Levels::deeper_some), unfolding(vl_tree::specs::Reading::either))]
+#[tactic(auto, using(crate::proofs::Levels::deeper_none, crate::proofs::Levels::deeper_some),
+    unfolding(vl_tree::specs::Reading::either))]
 fn index<'a>(alloc: Global, ts: Ahead<'a>, depth: u32) -> Result<(Pick, Ahead<'a>), ReadError>
-    ensures { Gives (λ x. (pick_of x.0, placed x.1)) result (picks.index_at depth (reading.expr_at depth) (placed ts.entry)) }
+    ensures { Gives (λ x. (pick_of x.0, placed x.1)) result
+        (picks.index_at depth (reading.expr_at depth) (placed ts.entry)) }
 {
     if at_plain(ts) {
         return numbers(ts);
@@ -151,9 +159,11 @@ fn word<'a>(alloc: Global, ts: Ahead<'a>, depth: u32) -> Result<(Pick, Ahead<'a>
 }
 
 #[cycle(expr)]
-#[tactic(auto, using(crate::proofs::Levels::deeper_none, crate::proofs::Levels::deeper_some), unfolding(vl_tree::specs::Reading::either))]
+#[tactic(auto, using(crate::proofs::Levels::deeper_none, crate::proofs::Levels::deeper_some),
+    unfolding(vl_tree::specs::Reading::either))]
 fn deep<'a>(alloc: Global, ts: Ahead<'a>, depth: u32) -> Result<(Expr, Ahead<'a>), ReadError>
-    ensures { Gives (λ x. (read x.0, placed x.1)) result (picks.deep_at depth (reading.expr_at depth) (placed ts.entry)) }
+    ensures { Gives (λ x. (read x.0, placed x.1)) result
+        (picks.deep_at depth (reading.expr_at depth) (placed ts.entry)) }
 {
     if depth == 0 {
         return Err(ReadError::At(left_of(ts)));
@@ -165,7 +175,8 @@ fn deep<'a>(alloc: Global, ts: Ahead<'a>, depth: u32) -> Result<(Expr, Ahead<'a>
 }
 
 #[cycle(expr)]
-#[tactic(auto, unfolding(vl_tree::specs::Reading::group_at, vl_tree::specs::Reading::both, vl_tree::specs::Reading::made))]
+#[tactic(auto, unfolding(vl_tree::specs::Reading::group_at, vl_tree::specs::Reading::both,
+    vl_tree::specs::Reading::made))]
 fn group<'a>(alloc: Global, ts: Ahead<'a>, depth: u32) -> Result<(Expr, Ahead<'a>), ReadError>
     ensures { Gives (λ x. (read x.0, placed x.1)) result (reading.group_at (reading.expr_at depth) (placed ts.entry)) }
 {
@@ -176,7 +187,8 @@ fn group<'a>(alloc: Global, ts: Ahead<'a>, depth: u32) -> Result<(Expr, Ahead<'a
 }
 
 #[cycle(expr)]
-#[tactic(auto, unfolding(vl_tree::specs::Reading::either, vl_tree::specs::Reading::both, vl_tree::specs::Reading::made))]
+#[tactic(auto, unfolding(vl_tree::specs::Reading::either, vl_tree::specs::Reading::both,
+    vl_tree::specs::Reading::made))]
 fn inside<'a>(alloc: Global, ts: Ahead<'a>, depth: u32) -> Result<(Expr, Ahead<'a>), ReadError>
     ensures { Gives (λ x. (read x.0, placed x.1)) result (picks.inside_at (reading.expr_at depth) (placed ts.entry)) }
 {
@@ -191,13 +203,15 @@ fn inside<'a>(alloc: Global, ts: Ahead<'a>, depth: u32) -> Result<(Expr, Ahead<'
 }
 
 #[cycle(expr)]
-#[tactic(auto, unfolding(vl_tree::specs::Reading::rest_at, vl_tree::specs::Reading::either, vl_tree::specs::Reading::both, vl_tree::specs::Reading::made))]
+#[tactic(auto, unfolding(vl_tree::specs::Reading::rest_at, vl_tree::specs::Reading::either,
+    vl_tree::specs::Reading::both, vl_tree::specs::Reading::made))]
 fn behind_first<'a>(
     alloc: Global,
     ts: Ahead<'a>,
     depth: u32,
 ) -> Result<(Rest, Ahead<'a>), ReadError>
-    ensures { Gives (λ x. (rest_of x.0, placed x.1)) result (reading.rest_at (reading.expr_at depth) (placed ts.entry)) }
+    ensures { Gives (λ x. (rest_of x.0, placed x.1)) result
+        (reading.rest_at (reading.expr_at depth) (placed ts.entry)) }
 {
     if !at_mark(ts, b"?") {
         let (op, ts) = op(ts)?;
@@ -212,7 +226,8 @@ fn behind_first<'a>(
 }
 
 #[cycle(expr)]
-#[tactic(auto, using(crate::proofs::Levels::cat_done), unfolding(vl_tree::specs::Reading::cat_at, vl_tree::specs::Reading::both, vl_tree::specs::Reading::made))]
+#[tactic(auto, using(crate::proofs::Levels::cat_done),
+    unfolding(vl_tree::specs::Reading::cat_at, vl_tree::specs::Reading::both, vl_tree::specs::Reading::made))]
 fn cat<'a>(alloc: Global, ts: Ahead<'a>, depth: u32) -> Result<(Expr, Ahead<'a>), ReadError>
     ensures { Gives (λ x. (read x.0, placed x.1)) result (reading.cat_at (reading.expr_at depth) (placed ts.entry)) }
 {
@@ -239,7 +254,8 @@ fn parts<'a>(
     depth: u32,
     first: Expr,
 ) -> Result<(Items<Expr>, Ahead<'a>), ReadError>
-    ensures { Gives (λ x. ((map read x.0, tt), placed x.1)) result (more_of (read first ∷ []) (picks.parts_at (reading.expr_at depth) (placed ts.entry))) }
+    ensures { Gives (λ x. ((map read x.0, tt), placed x.1)) result
+        (more_of (read first ∷ []) (picks.parts_at (reading.expr_at depth) (placed ts.entry))) }
 {
     let mut parts = Items::new(alloc);
     parts.push(first)?;

@@ -41,7 +41,8 @@ fn next(base: u64, number: u64, d: u64) -> Option<u64>
 // The number that the digits write, if it fits.
 fn value(base: u64, digits: &[u8]) -> Option<u64>
     requires { 0 < base }
-    ensures { result ≡ (if nat_lt (digits_value base digits.now) (2 ^ 64) then Some (digits_value base digits.now) else None) }
+    ensures { result
+        ≡ (if nat_lt (digits_value base digits.now) (2 ^ 64) then Some (digits_value base digits.now) else None) }
 {
     let mut number = 0;
     for d in digits {

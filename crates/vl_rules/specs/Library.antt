@@ -22,7 +22,8 @@ first_leaf ls n = position_from (λ l. bytes_eq n l.name) 0 ls
 -- the tables say what each leaf declares
 pub record AreDeclared (ls : List code.Leaf) (ts : List (Names Entry)) : Type 0 where
   pub long : length ts ≡ length ls
-  pub each : (i : ℕ) (l : code.Leaf) (t : Names Entry) → slice_get ls i ≡ Some l → slice_get ts i ≡ Some t → Declares t (leaf_lines (read_leaf l))
+  pub each : (i : ℕ) (l : code.Leaf) (t : Names Entry) → slice_get ls i ≡ Some l → slice_get ts i ≡ Some t
+      → Declares t (leaf_lines (read_leaf l))
 
 -- a library says where the first leaf of each name stands, and what each leaf declares
 pub record IsLibrary (b : Library) : Type 0 where

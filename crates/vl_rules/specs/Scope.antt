@@ -18,7 +18,8 @@ declared_as n e = record { name = n; kind = e.kind; high = e.high; last = e.last
 -- the entry of a name that line k declares in this way
 abbrev pub entry_at : ℕ → Option Declared → Name → Option Entry
 entry_at k None n = None
-entry_at k (Some x) n = if bytes_eq n x.name then Some (record { line = k; kind = x.kind; high = x.high; last = x.last }) else None
+entry_at k (Some x) n = if bytes_eq n x.name then Some
+    (record { line = k; kind = x.kind; high = x.high; last = x.last }) else None
 
 -- what the entry says, where its line stands before line k
 abbrev pub before : ℕ → Name → Option Entry → Option Declared

@@ -15,4 +15,5 @@ net_passes (nets.TheVariants.Within s) n = is_some (found s.now n)
 
 abbrev pub use_passes : uses.UseTest → Use → Bool
 use_passes (uses.TheVariants.Unknown t k) u = not (kind_passes is_memory (seen t.now k u.memory))
-use_passes (uses.TheVariants.Unfit t k) u = not (2 ^ width_of (widths_at t.now k) u.index == word_count (seen t.now k u.memory))
+use_passes (uses.TheVariants.Unfit t k) u =
+    not (2 ^ width_of (widths_at t.now k) u.index == word_count (seen t.now k u.memory))

@@ -10,4 +10,5 @@ width_in w e = if agrees w e then Some (width_of w e) else None
 -- the parts in a row, behind some bits: nothing where widths don't agree or are more than 64
 abbrev pub parts_width : Widths → ℕ → Exprs → Option ℕ
 parts_width w total no_parts = Some total
-parts_width w total (parts e es) = if agrees w e && nat_le (total + width_of w e) 64 then parts_width w (total + width_of w e) es else None
+parts_width w total (parts e es) = if agrees w e
+    && nat_le (total + width_of w e) 64 then parts_width w (total + width_of w e) es else None

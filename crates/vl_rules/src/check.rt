@@ -109,7 +109,8 @@ fn breaks(
 fn search(alloc: Global, check: &Check, site: &Site) -> Result<Option<usize>, AllocError>
     requires known { IsKnown site.now }
     requires ready { IsReady site.now check.now }
-    ensures { IfOk result (λ r. r ≡ position_from (test_of check.now) 0 (module_sites (leaves_before site.now) (lines_of site.now.subject))) }
+    ensures { IfOk result (λ r. r
+        ≡ position_from (test_of check.now) 0 (module_sites (leaves_before site.now) (lines_of site.now.subject))) }
 {
     for number in 0..site.subject.len() {
         let line = site.subject.line(number);
@@ -123,7 +124,8 @@ fn search(alloc: Global, check: &Check, site: &Site) -> Result<Option<usize>, Al
 /// The first line of the module that breaks the rule.
 pub fn first_in(alloc: Global, rule: Rule, site: &Site) -> Result<Option<usize>, AllocError>
     requires { IsKnown site.now }
-    ensures { IfOk result (λ r. r ≡ position_from (rule_of rule).1 0 (module_sites (leaves_before site.now) (lines_of site.now.subject))) }
+    ensures { IfOk result (λ r. r
+        ≡ position_from (rule_of rule).1 0 (module_sites (leaves_before site.now) (lines_of site.now.subject))) }
 {
     let check = prepare(alloc, rule, site)?;
     let first = search(alloc, &check, site)?;

@@ -46,7 +46,8 @@ fn wants_driver(kind: Kind) -> bool
 /// Whether the line declares what is to be driven and is not driven exactly once.
 pub fn lacks_driver(site: &Site, counts: &Names<u8>, line: &Line) -> bool
     requires { Counts counts.now (leaves_before site.now) (lines_of site.now.subject) }
-    ensures { result ≡ rules.lacks_driver (leaves_before site.now) (lines_of site.now.subject) (declared (line_of line.now)) }
+    ensures { result ≡ rules.lacks_driver (leaves_before site.now) (lines_of site.now.subject)
+        (declared (line_of line.now)) }
 {
     match declared_by(line) {
         Some(x) => wants_driver(x.kind) && counts.get(x.name).unwrap_or(0) != 1,
@@ -84,7 +85,8 @@ fn is_once(counts: &Names<u8>, port: &Port, joins: &[Join]) -> bool
 
 fn each_once(counts: &Names<u8>, ports: &[Port], joins: &[Join]) -> bool
     requires { (n : Name) → count counts.now n ≡ min 2 (count_by (λ (j : Join). bytes_eq n j.port) joins.now) }
-    ensures { result ≡ list_all (λ (p : Port). count_by (λ (j : Join). bytes_eq p.name j.port) joins.now == 1) ports.now }
+    ensures { result ≡ list_all (λ (p : Port). count_by (λ (j : Join). bytes_eq p.name j.port) joins.now == 1)
+        ports.now }
 {
     for port in ports {
         if !is_once(counts, port, joins) {

@@ -19,7 +19,8 @@ use crate::widths::width;
 use vl_tree::{Expr, Join, LeafItem, TopItem};
 
 fn is_as_wide(site: &Site, number: usize, e: &Expr, wide: u64) -> bool
-    ensures { result ≡ (agrees (widths_at site.now.declared.now number) (read e.now) && (width_of (widths_at site.now.declared.now number) (read e.now) == wide)) }
+    ensures { result ≡ (agrees (widths_at site.now.declared.now number) (read e.now)
+        && (width_of (widths_at site.now.declared.now number) (read e.now) == wide)) }
 {
     match width(e, site.declared, number) {
         Some(w) => w == wide,
@@ -34,7 +35,8 @@ fn does_agree(site: &Site, number: usize, e: &Expr) -> bool
 }
 
 fn fits_item(site: &Site, number: usize, subject: &LeafItem) -> bool
-    ensures { result ≡ rules.line_fits (leaves_before site.now) (widths_at site.now.declared.now number) (item (read_item subject.now)) }
+    ensures { result ≡ rules.line_fits (leaves_before site.now) (widths_at site.now.declared.now number)
+        (item (read_item subject.now)) }
 {
     match subject {
         LeafItem::Wire { high, .. } => *high < 64,
@@ -64,7 +66,8 @@ fn fits_item(site: &Site, number: usize, subject: &LeafItem) -> bool
 
 fn fits_join(site: &Site, number: usize, leaf: &Known, join: &Join) -> bool
     requires { Declares leaf.now.declared.now (leaf_lines (read_leaf leaf.now.leaf.now)) }
-    ensures { result ≡ rules.join_fits (widths_at site.now.declared.now number) join.now.net (port_named leaf.now.leaf.now.ports join.now.port) }
+    ensures { result ≡ rules.join_fits (widths_at site.now.declared.now number) join.now.net
+        (port_named leaf.now.leaf.now.ports join.now.port) }
 {
     match port(leaf, join.port.as_slice()) {
         Some(shape) => {
@@ -76,7 +79,8 @@ fn fits_join(site: &Site, number: usize, leaf: &Known, join: &Join) -> bool
 
 fn fits_joins(site: &Site, number: usize, leaf: &Known, joins: &[Join]) -> bool
     requires { Declares leaf.now.declared.now (leaf_lines (read_leaf leaf.now.leaf.now)) }
-    ensures { result ≡ list_all (λ (j : Join). rules.join_fits (widths_at site.now.declared.now number) j.net (port_named leaf.now.leaf.now.ports j.port)) joins.now }
+    ensures { result
+        ≡ list_all (λ (j : Join). rules.join_fits (widths_at site.now.declared.now number) j.net (port_named leaf.now.leaf.now.ports j.port)) joins.now }
 {
     for join in joins {
         if !fits_join(site, number, leaf, join) {
@@ -88,7 +92,8 @@ fn fits_joins(site: &Site, number: usize, leaf: &Known, joins: &[Join]) -> bool
 
 fn fits(site: &Site, number: usize, line: &Line) -> bool
     requires { IsKnown site.now }
-    ensures { result ≡ rules.line_fits (leaves_before site.now) (widths_at site.now.declared.now number) (line_of line.now) }
+    ensures { result ≡ rules.line_fits (leaves_before site.now) (widths_at site.now.declared.now number)
+        (line_of line.now) }
 {
     match line {
         Line::Heading(_) => true,
@@ -107,7 +112,8 @@ fn fits(site: &Site, number: usize, line: &Line) -> bool
 /// Whether the widths of the line are 1 to 64 and agree.
 pub fn fits_line(site: &Site, number: usize, line: &Line) -> bool
     requires { IsKnown site.now }
-    ensures { result ≡ rules.line_fits (leaves_before site.now) (widths (lines_before site.now number)) (line_of line.now) }
+    ensures { result ≡ rules.line_fits (leaves_before site.now) (widths (lines_before site.now number))
+        (line_of line.now) }
 {
     fits(site, number, line)
 }
@@ -124,7 +130,8 @@ fn is_size(words: u64) -> bool
 
 fn one_fits(site: &Site, number: usize, memory: &[u8], index: &Expr) -> bool
     requires { IsKnown site.now }
-    ensures { result ≡ rules.use_fits (lines_before site.now number) (record { memory = memory.now; index = read index.now }) }
+    ensures { result ≡ rules.use_fits (lines_before site.now number)
+        (record { memory = memory.now; index = read index.now }) }
 {
     index_fits(site.declared, number, memory, index)
 }
@@ -146,7 +153,9 @@ fn store_fits(
     value: &Expr,
 ) -> bool
     requires { IsKnown site.now }
-    ensures { result ≡ list_all (rules.use_fits (lines_before site.now number)) (record { memory = memory.now; index = read index.now } ∷ (uses_of (read enable.now) ++ (uses_of (read index.now) ++ uses_of (read value.now)))) }
+    ensures { result ≡ list_all (rules.use_fits (lines_before site.now number))
+        (record { memory = memory.now; index = read index.now }
+        ∷ (uses_of (read enable.now) ++ (uses_of (read index.now) ++ uses_of (read value.now)))) }
 {
     one_fits(site, number, memory, index)
         && indexes_fit(site, number, enable)

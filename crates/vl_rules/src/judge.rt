@@ -48,7 +48,8 @@ fn leaf_site<'a>(library: &'a Library<'a>, number: usize) -> Site<'a>
     requires within { number < length library.now.leaves.now }
     ensures known { IsKnown result }
     ensures leaves { leaves_before result ≡ take number (read_leaves library.now.leaves.now) }
-    ensures lines { (l : Leaf) → slice_get (read_leaves library.now.leaves.now) number ≡ Some l → lines_of result.subject ≡ leaf_lines l }
+    ensures lines { (l : Leaf) → slice_get (read_leaves library.now.leaves.now) number ≡ Some l
+        → lines_of result.subject ≡ leaf_lines l }
 {
     let known = library.known(number);
     Site {
@@ -84,7 +85,10 @@ fn first_line<'a>(
 ) -> Result<Option<u64>, AllocError>
     requires library { IsLibrary library.now }
     requires declared { Declares declared.now (top_lines top.now) }
-    ensures { IfOk result (λ r. r ≡ position_from (rule_of rule).1 0 (leaf_sites [] (read_leaves library.now.leaves.now) ++ module_sites (read_leaves library.now.leaves.now) (top_lines top.now))) }
+    ensures { IfOk result (λ r. r
+        ≡ position_from (rule_of rule).1 0
+        (leaf_sites [] (read_leaves library.now.leaves.now)
+        ++ module_sites (read_leaves library.now.leaves.now) (top_lines top.now))) }
 {
     let mut start = 0;
     for number in 0..library.leaves.len() {
@@ -114,7 +118,8 @@ fn rule_fault<'a>(
 ) -> Result<Option<TextFault>, AllocError>
     requires library { IsLibrary library.now }
     requires declared { Declares declared.now (top_lines top.now) }
-    ensures { IfOk result (λ r. r ≡ fault_by (rule_of rule) (leaf_sites [] (read_leaves library.now.leaves.now) ++ module_sites (read_leaves library.now.leaves.now) (top_lines top.now))) }
+    ensures { IfOk result (λ r. r ≡ fault_by (rule_of rule) (leaf_sites [] (read_leaves library.now.leaves.now)
+        ++ module_sites (read_leaves library.now.leaves.now) (top_lines top.now))) }
 {
     match first_line(alloc, rule, library, top, declared)? {
         Some(line) => Ok(Some(fault(rule, line))),
@@ -132,7 +137,10 @@ fn first_of<'a>(
 ) -> Result<Option<TextFault>, AllocError>
     requires library { IsLibrary library.now }
     requires declared { Declares declared.now (top_lines top.now) }
-    ensures { IfOk result (λ r. r ≡ model.first_fault_of (map rule_of rules.now) (leaf_sites [] (read_leaves library.now.leaves.now) ++ module_sites (read_leaves library.now.leaves.now) (top_lines top.now))) }
+    ensures { IfOk result (λ r. r
+        ≡ model.first_fault_of (map rule_of rules.now)
+        (leaf_sites [] (read_leaves library.now.leaves.now)
+        ++ module_sites (read_leaves library.now.leaves.now) (top_lines top.now))) }
 {
     for rule in rules {
         if let Some(fault) = rule_fault(alloc, *rule, library, top, declared)? {

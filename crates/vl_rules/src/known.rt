@@ -55,7 +55,8 @@ fn knows(site: &Site, number: usize, e: &Expr) -> bool
 
 fn knows_item(site: &Site, number: usize, subject: &LeafItem) -> bool
     requires { IsKnown site.now }
-    ensures { result ≡ rules.line_known (leaves_before site.now) (lines_before site.now number) (item (read_item subject.now)) }
+    ensures { result ≡ rules.line_known (leaves_before site.now) (lines_before site.now number)
+        (item (read_item subject.now)) }
 {
     match subject {
         LeafItem::Assign { name, value } => {
@@ -82,7 +83,8 @@ fn knows_item(site: &Site, number: usize, subject: &LeafItem) -> bool
 fn knows_join(site: &Site, number: usize, leaf: &Known, join: &Join) -> bool
     requires known { IsKnown site.now }
     requires leaf { Declares leaf.now.declared.now (leaf_lines (read_leaf leaf.now.leaf.now)) }
-    ensures { result ≡ rules.joins_known (lines_before site.now number) join.now.net (port_named leaf.now.leaf.now.ports join.now.port) }
+    ensures { result ≡ rules.joins_known (lines_before site.now number) join.now.net
+        (port_named leaf.now.leaf.now.ports join.now.port) }
 {
     match port(leaf, join.port.as_slice()) {
         Some(shape) => {
@@ -100,7 +102,8 @@ fn knows_join(site: &Site, number: usize, leaf: &Known, join: &Join) -> bool
 fn knows_joins(site: &Site, number: usize, leaf: &Known, joins: &[Join]) -> bool
     requires known { IsKnown site.now }
     requires leaf { Declares leaf.now.declared.now (leaf_lines (read_leaf leaf.now.leaf.now)) }
-    ensures { result ≡ list_all (λ (j : Join). rules.joins_known (lines_before site.now number) j.net (port_named leaf.now.leaf.now.ports j.port)) joins.now }
+    ensures { result
+        ≡ list_all (λ (j : Join). rules.joins_known (lines_before site.now number) j.net (port_named leaf.now.leaf.now.ports j.port)) joins.now }
 {
     for join in joins {
         if !knows_join(site, number, leaf, join) {

@@ -87,7 +87,8 @@ impl<'a> Library<'a> {
     /// The leaf of this name among the first `count` ones.
     pub fn leaf(&self, count: usize, name: &[u8]) -> Option<Known<'_>>
         requires { IsLibrary self.now }
-        ensures leaf { option_map (λ k. read_leaf k.leaf.now) result ≡ leaf_named (take count (read_leaves self.now.leaves.now)) name.now }
+        ensures leaf { option_map (λ k. read_leaf k.leaf.now) result
+            ≡ leaf_named (take count (read_leaves self.now.leaves.now)) name.now }
         ensures declared { IfSome result (λ k. Declares k.declared.now (leaf_lines (read_leaf k.leaf.now))) }
     {
         match self.numbers.get(name) {

@@ -35,7 +35,8 @@ impl<V: Copy + Drop> Names<V> {
     ///
     /// Memory ran out; then nothing is known of the table.
     pub fn put(&mut self, alloc: Global, name: &[u8], value: V) -> Result<(), AllocError>
-        ensures { OnOk result ((n : List ℕ) → found self.new n ≡ (if bytes_eq n name.now then Some value else found self.old n)) }
+        ensures { OnOk result ((n : List ℕ)
+            → found self.new n ≡ (if bytes_eq n name.now then Some value else found self.old n)) }
     {
         let key = Vec::from_slice(alloc, name)?;
         self.table.insert(key, value)?;
@@ -48,7 +49,8 @@ impl<V: Copy + Drop> Names<V> {
     ///
     /// Memory ran out; then nothing is known of the table.
     pub fn put_first(&mut self, alloc: Global, name: &[u8], value: V) -> Result<(), AllocError>
-        ensures { OnOk result ((n : List ℕ) → found self.new n ≡ option_or (found self.old n) (if bytes_eq n name.now then Some value else None)) }
+        ensures { OnOk result ((n : List ℕ)
+            → found self.new n ≡ option_or (found self.old n) (if bytes_eq n name.now then Some value else None)) }
     {
         if self.get(name).is_none() {
             self.put(alloc, name, value)?;

@@ -45,7 +45,8 @@ fn note(
     number: usize,
     line: &Line,
 ) -> Result<(), AllocError>
-    ensures { OnOk result ((n : Name) → found table.new n ≡ option_or (found table.old n) (entry_at number (declared (line_of line.now)) n)) }
+    ensures { OnOk result ((n : Name) → found table.new n
+        ≡ option_or (found table.old n) (entry_at number (declared (line_of line.now)) n)) }
 {
     if let Some(x) = declared_by(line) {
         let entry = Entry {
@@ -77,7 +78,8 @@ fn note_assign(
     number: usize,
     line: &Line,
 ) -> Result<(), AllocError>
-    ensures { OnOk result ((n : Name) → found table.new n ≡ option_or (found table.old n) (if assigns n (line_of line.now) then Some number else None)) }
+    ensures { OnOk result ((n : Name) → found table.new n
+        ≡ option_or (found table.old n) (if assigns n (line_of line.now) then Some number else None)) }
 {
     if let Line::Item(LeafItem::Assign { name, .. }) = line {
         table.put_first(alloc, name.as_slice(), number)?;

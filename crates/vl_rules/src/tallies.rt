@@ -36,7 +36,8 @@ fn count_join(
     join: &Join,
 ) -> Result<(), AllocError>
     requires { Declares known.now.declared.now (leaf_lines (read_leaf known.now.leaf.now)) }
-    ensures { OnOk result ((n : Name) → count table.new n ≡ min 2 (count table.old n + one_if (join_drives (read_leaf known.now.leaf.now) n join.now))) }
+    ensures { OnOk result ((n : Name) → count table.new n
+        ≡ min 2 (count table.old n + one_if (join_drives (read_leaf known.now.leaf.now) n join.now))) }
 {
     match port(known, join.port.as_slice()) {
         Some(shape) => {
@@ -57,7 +58,8 @@ fn count_joins(
     joins: &[Join],
 ) -> Result<(), AllocError>
     requires { Declares known.now.declared.now (leaf_lines (read_leaf known.now.leaf.now)) }
-    ensures { OnOk result ((n : Name) → count table.new n ≡ min 2 (count table.old n + count_by (join_drives (read_leaf known.now.leaf.now) n) joins.now)) }
+    ensures { OnOk result ((n : Name) → count table.new n
+        ≡ min 2 (count table.old n + count_by (join_drives (read_leaf known.now.leaf.now) n) joins.now)) }
 {
     for join in joins {
         count_join(alloc, table, known, join)?;
@@ -74,7 +76,8 @@ fn count_line(
     line: &Line,
 ) -> Result<(), AllocError>
     requires { IsLibrary library.now }
-    ensures { OnOk result ((n : Name) → count table.new n ≡ min 2 (count table.old n + drives (take leaves (read_leaves library.now.leaves.now)) n (line_of line.now))) }
+    ensures { OnOk result ((n : Name) → count table.new n
+        ≡ min 2 (count table.old n + drives (take leaves (read_leaves library.now.leaves.now)) n (line_of line.now))) }
 {
     match line {
         Line::Item(LeafItem::Assign { name, .. }) => count_one(alloc, table, name.as_slice()),

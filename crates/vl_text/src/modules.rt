@@ -50,7 +50,8 @@ fn item(out: &mut Vec<u8>, it: &LeafItem) -> Result<(), AllocError>
 }
 
 fn clocked(out: &mut Vec<u8>, name: &[u8], reset: &Const, value: &Expr) -> Result<(), AllocError>
-    ensures { OnOk result (out.new.items ≡ out.old.items ++ item_text (values.clocked name.now reset.now (read value.now))) }
+    ensures { OnOk result (out.new.items ≡ out.old.items
+        ++ item_text (values.clocked name.now reset.now (read value.now))) }
 {
     put(out, b"  always @(posedge clk) if (rst) ")?;
     put(out, name)?;
@@ -70,7 +71,8 @@ fn store(
     index: &Expr,
     value: &Expr,
 ) -> Result<(), AllocError>
-    ensures { OnOk result (out.new.items ≡ out.old.items ++ item_text (values.store (read enable.now) name.now (read index.now) (read value.now))) }
+    ensures { OnOk result (out.new.items ≡ out.old.items
+        ++ item_text (values.store (read enable.now) name.now (read index.now) (read value.now))) }
 {
     put(out, b"  always @(posedge clk) if (")?;
     expr(out, enable)?;

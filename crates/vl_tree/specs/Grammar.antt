@@ -40,11 +40,14 @@ abbrev mutual
   expr_tokens (net n) = name n ∷ []
   expr_tokens (number k) = const_token k ∷ []
   expr_tokens (bit n i) = name n ∷ (marks (codes "[") ++ (plain i ∷ marks (codes "]")))
-  expr_tokens (part n h l) = name n ∷ (marks (codes "[") ++ (plain h ∷ (marks (codes ":") ++ (plain l ∷ marks (codes "]")))))
+  expr_tokens (part n h l) = name n ∷ (marks (codes "[")
+      ++ (plain h ∷ (marks (codes ":") ++ (plain l ∷ marks (codes "]")))))
   expr_tokens (word n e) = name n ∷ (marks (codes "[") ++ (expr_tokens e ++ marks (codes "]")))
   expr_tokens (not e) = marks (codes "( ~") ++ (expr_tokens e ++ marks (codes ")"))
   expr_tokens (two op a b) = marks (codes "(") ++ (expr_tokens a ++ (op_mark op ∷ (expr_tokens b ++ marks (codes ")"))))
-  expr_tokens (choose c a b) = marks (codes "(") ++ (expr_tokens c ++ (marks (codes "?") ++ (expr_tokens a ++ (marks (codes ":") ++ (expr_tokens b ++ marks (codes ")"))))))
+  expr_tokens (choose c a b) = marks (codes "(")
+      ++ (expr_tokens c ++ (marks (codes "?")
+      ++ (expr_tokens a ++ (marks (codes ":") ++ (expr_tokens b ++ marks (codes ")"))))))
   expr_tokens (cat no_parts) = marks (codes "{ }")
   expr_tokens (cat (parts e es)) = marks (codes "{") ++ (expr_tokens e ++ more_tokens es)
 
@@ -81,10 +84,19 @@ range_tokens high = marks (codes "[") ++ (plain high ∷ (marks (codes ":") ++ (
 abbrev pub item_tokens : Item → List Token
 item_tokens (wire h n) = marks (codes "wire") ++ (range_tokens h ++ (name n ∷ marks (codes ";")))
 item_tokens (reg h n) = marks (codes "reg") ++ (range_tokens h ++ (name n ∷ marks (codes ";")))
-item_tokens (mem h n last) = marks (codes "reg") ++ (range_tokens h ++ (name n ∷ (marks (codes "[") ++ (plain 0 ∷ (marks (codes ":") ++ (plain last ∷ marks (codes "] ;")))))))
-item_tokens (assign n e) = marks (codes "assign") ++ (name n ∷ (marks (codes "=") ++ (expr_tokens e ++ marks (codes ";"))))
-item_tokens (clocked n r e) = marks (codes "always @ ( posedge clk ) if (") ++ (marks (codes "rst )") ++ (name n ∷ (marks (codes "<=") ++ (const_token r ∷ (marks (codes "; else") ++ (name n ∷ (marks (codes "<=") ++ (expr_tokens e ++ marks (codes ";")))))))))
-item_tokens (store c n i e) = marks (codes "always @ ( posedge clk ) if (") ++ (expr_tokens c ++ (marks (codes ")") ++ (name n ∷ (marks (codes "[") ++ (expr_tokens i ++ (marks (codes "] <=") ++ (expr_tokens e ++ marks (codes ";"))))))))
+item_tokens (mem h n last) = marks (codes "reg")
+    ++ (range_tokens h ++ (name n ∷ (marks (codes "[")
+    ++ (plain 0 ∷ (marks (codes ":") ++ (plain last ∷ marks (codes "] ;")))))))
+item_tokens (assign n e) = marks (codes "assign")
+    ++ (name n ∷ (marks (codes "=") ++ (expr_tokens e ++ marks (codes ";"))))
+item_tokens (clocked n r e) = marks (codes "always @ ( posedge clk ) if (")
+    ++ (marks (codes "rst )") ++ (name n ∷ (marks (codes "<=")
+    ++ (const_token r ∷ (marks (codes "; else")
+    ++ (name n ∷ (marks (codes "<=") ++ (expr_tokens e ++ marks (codes ";")))))))))
+item_tokens (store c n i e) = marks (codes "always @ ( posedge clk ) if (")
+    ++ (expr_tokens c ++ (marks (codes ")")
+    ++ (name n ∷ (marks (codes "[") ++ (expr_tokens i
+    ++ (marks (codes "] <=") ++ (expr_tokens e ++ marks (codes ";"))))))))
 
 abbrev pub ItemFits : Item → Type 0
 ItemFits (wire h n) = Unit {0}
@@ -100,14 +112,16 @@ way_mark false = mark (codes "input")
 
 -- a port with the comma before it
 abbrev pub port_tokens : Port → List Token
-port_tokens p = marks (codes ",") ++ (way_mark p.output ∷ (marks (codes "wire") ++ (range_tokens p.high ++ (name p.name ∷ []))))
+port_tokens p = marks (codes ",") ++ (way_mark p.output
+    ∷ (marks (codes "wire") ++ (range_tokens p.high ++ (name p.name ∷ []))))
 
 -- what stands between a module's name and its items
 abbrev pub head_tokens : List Port → List Token
 head_tokens ports = marks (codes "( input wire clk , input wire rst") ++ (each port_tokens ports ++ marks (codes ") ;"))
 
 abbrev pub leaf_tokens : values.Leaf → List Token
-leaf_tokens l = marks (codes "module") ++ (name l.name ∷ (head_tokens l.ports ++ (each item_tokens l.items ++ marks (codes "endmodule"))))
+leaf_tokens l = marks (codes "module") ++ (name l.name
+    ∷ (head_tokens l.ports ++ (each item_tokens l.items ++ marks (codes "endmodule"))))
 
 -- a join with the comma before it
 abbrev pub join_tokens : Join → List Token
@@ -115,10 +129,12 @@ join_tokens j = marks (codes ", .") ++ (name j.port ∷ (marks (codes "(") ++ (n
 
 abbrev pub top_item_tokens : TopItem → List Token
 top_item_tokens (Wire h n) = marks (codes "wire") ++ (range_tokens h ++ (name n ∷ marks (codes ";")))
-top_item_tokens (Instance l n joins) = name l ∷ (name n ∷ (marks (codes "( . clk ( clk ) , . rst ( rst )") ++ (each join_tokens joins ++ marks (codes ") ;"))))
+top_item_tokens (Instance l n joins) = name l
+    ∷ (name n ∷ (marks (codes "( . clk ( clk ) , . rst ( rst )") ++ (each join_tokens joins ++ marks (codes ") ;"))))
 
 abbrev pub top_tokens : Top → List Token
-top_tokens t = marks (codes "module noc") ++ (head_tokens t.ports ++ (each top_item_tokens t.items ++ marks (codes "endmodule")))
+top_tokens t = marks (codes "module noc") ++ (head_tokens t.ports
+    ++ (each top_item_tokens t.items ++ marks (codes "endmodule")))
 
 abbrev pub design_tokens : Design → List Token
 design_tokens d = each leaf_tokens d.leaves ++ top_tokens d.top

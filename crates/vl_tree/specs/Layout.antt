@@ -37,7 +37,8 @@ abbrev mutual
   expr_text (word n e) = n ++ (codes "[" ++ (expr_text e ++ codes "]"))
   expr_text (not e) = codes "(~" ++ (expr_text e ++ codes ")")
   expr_text (two op a b) = codes "(" ++ (expr_text a ++ (op_text op ++ (expr_text b ++ codes ")")))
-  expr_text (choose c a b) = codes "(" ++ (expr_text c ++ (codes " ? " ++ (expr_text a ++ (codes " : " ++ (expr_text b ++ codes ")")))))
+  expr_text (choose c a b) = codes "(" ++ (expr_text c
+      ++ (codes " ? " ++ (expr_text a ++ (codes " : " ++ (expr_text b ++ codes ")")))))
   expr_text (cat no_parts) = codes "{}"
   expr_text (cat (parts e es)) = codes "{" ++ (expr_text e ++ more_text es)
 
@@ -54,8 +55,12 @@ item_text (wire h n) = codes "  wire " ++ (ranged_text h n ++ codes ";\n")
 item_text (reg h n) = codes "  reg " ++ (ranged_text h n ++ codes ";\n")
 item_text (mem h n last) = codes "  reg " ++ (ranged_text h n ++ (codes " [0:" ++ (decimal last ++ codes "];\n")))
 item_text (assign n e) = codes "  assign " ++ (n ++ (codes " = " ++ (expr_text e ++ codes ";\n")))
-item_text (clocked n r e) = codes "  always @(posedge clk) if (rst) " ++ (n ++ (codes " <= " ++ (const_text r ++ (codes "; else " ++ (n ++ (codes " <= " ++ (expr_text e ++ codes ";\n")))))))
-item_text (store c n i e) = codes "  always @(posedge clk) if (" ++ (expr_text c ++ (codes ") " ++ (n ++ (codes "[" ++ (expr_text i ++ (codes "] <= " ++ (expr_text e ++ codes ";\n")))))))
+item_text (clocked n r e) = codes "  always @(posedge clk) if (rst) "
+    ++ (n ++ (codes " <= " ++ (const_text r
+    ++ (codes "; else " ++ (n ++ (codes " <= " ++ (expr_text e ++ codes ";\n")))))))
+item_text (store c n i e) = codes "  always @(posedge clk) if ("
+    ++ (expr_text c ++ (codes ") " ++ (n ++ (codes "["
+    ++ (expr_text i ++ (codes "] <= " ++ (expr_text e ++ codes ";\n")))))))
 
 abbrev pub way_text : Bool → List ℕ
 way_text true = codes ",\n  output wire "
@@ -75,7 +80,9 @@ join_text j = codes ",\n    ." ++ (j.port ++ (codes "(" ++ (j.net ++ codes ")"))
 
 abbrev pub top_item_text : TopItem → List ℕ
 top_item_text (Wire h n) = codes "  wire " ++ (ranged_text h n ++ codes ";\n")
-top_item_text (Instance l n joins) = codes "  " ++ (l ++ (codes " " ++ (n ++ (codes " (\n    .clk(clk),\n    .rst(rst)" ++ (each_text join_text joins ++ codes "\n  );\n")))))
+top_item_text (Instance l n joins) = codes "  "
+    ++ (l ++ (codes " " ++ (n ++ (codes " (\n    .clk(clk),\n    .rst(rst)"
+    ++ (each_text join_text joins ++ codes "\n  );\n")))))
 
 abbrev pub top_text : Top → List ℕ
 top_text t = codes "module noc" ++ (head_text t.ports ++ (each_text top_item_text t.items ++ codes "endmodule\n"))

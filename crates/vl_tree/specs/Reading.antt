@@ -1,4 +1,5 @@
--- Reading tokens from left to right: a value and the tokens after it, or how many bytes are left from the first token on that doesn't fit.
+-- Reading tokens from left to right: a value and the tokens after it, or how many bytes are left from the first token
+-- on that doesn't fit.
 use Rattle.std.specs.Prelude.{ℕ, zero, suc, ◌==◌, Bool, true, false, not, if◌then◌else◌, List, [], ◌∷◌, length, Option, Some, None, Result, Ok, Err, codes, bytes_eq}
 use Rattle.vl_tree.specs.declared.tree.Const.{Const}
 use Rattle.vl_tree.specs.declared.tree.Op.{Op}
@@ -74,7 +75,8 @@ deeper (suc d) p = p
 -- as many as there are while the next token passes, and then what closes them
 unfoldable pub until_within : {X Y : Type 0} → ℕ → (Token → Bool) → Reader X → Reader Y → Reader (List X × Y)
 until_within zero c p q ts = none ts
-until_within (suc n) c p q ts = either c (made (λ x. (x.0 ∷ x.1.0, x.1.1)) (both p (λ x. until_within n c p q))) (made (λ y. ([], y)) q) ts
+until_within (suc n) c p q ts = either c (made (λ x. (x.0 ∷ x.1.0, x.1.1)) (both p (λ x. until_within n c p q)))
+    (made (λ y. ([], y)) q) ts
 
 unfoldable pub until : {X Y : Type 0} → (Token → Bool) → Reader X → Reader Y → Reader (List X × Y)
 until c p q ts = until_within (suc (length ts)) c p q ts
@@ -223,11 +225,14 @@ pick_of h (Some l) = at_part h l
 
 -- a bit or a part, behind the bracket
 unfoldable pub numbers_at : Reader Pick
-numbers_at = made (λ x. pick_of x.0 x.1) (both (one the_plain) (λ i. either (is_mark (codes ":")) (made (λ l. Some l) (opened (codes ":") (closed (one the_plain) (codes "]")))) (made (λ u. None) (phrase (codes "]")))))
+numbers_at = made (λ x. pick_of x.0 x.1)
+    (both (one the_plain) (λ i. either (is_mark (codes ":")) (made (λ l. Some l) (opened (codes ":") (closed (one the_plain) (codes "]")))) (made (λ u. None) (phrase (codes "]")))))
 
 -- the readers of one level take the one of the level below
 unfoldable pub pick_at : ℕ → Reader Expr → Reader Pick
-pick_at d below = either (is_mark (codes "[")) (opened (codes "[") (either is_plain_token numbers_at (deeper d (made at_word (closed below (codes "]")))))) (nothing whole)
+pick_at d below = either (is_mark (codes "["))
+    (opened (codes "[") (either is_plain_token numbers_at (deeper d (made at_word (closed below (codes "]"))))))
+    (nothing whole)
 
 unfoldable pub rest_at : Reader Expr → Reader Rest
 rest_at below =
@@ -278,7 +283,8 @@ clocked_at = opened (codes "rst )") (made (λ x. clocked x.0.0 x.0.1 x.1.1) (bot
 
 unfoldable pub store_at : Reader Item
 store_at = made (λ x. store x.0 x.1.0 x.1.1.0 x.1.1.1) (both (closed whole_expr (codes ")")) (λ c.
-    both (closed (one the_name) (codes "[")) (λ n. both (closed whole_expr (codes "] <=")) (λ i. closed whole_expr (codes ";")))))
+    both (closed (one the_name) (codes "["))
+        (λ n. both (closed whole_expr (codes "] <=")) (λ i. closed whole_expr (codes ";")))))
 
 unfoldable pub always_at : Reader Item
 always_at = opened (codes "always @ ( posedge clk ) if (") (either (is_mark (codes "rst")) clocked_at store_at)
@@ -291,23 +297,28 @@ item_at =
 -- ---- modules
 
 unfoldable pub port_at : Reader Port
-port_at = opened (codes ",") (made (λ x. record { output = x.0; high = x.1.0; name = x.1.1 }) (both (closed (one the_way) (codes "wire")) (λ o. both range_at (λ h. one the_name))))
+port_at = opened (codes ",") (made (λ x. record { output = x.0; high = x.1.0;
+    name = x.1.1 }) (both (closed (one the_way) (codes "wire")) (λ o. both range_at (λ h. one the_name))))
 
 unfoldable pub head_at : Reader (List Port)
-head_at = opened (codes "( input wire clk , input wire rst") (made first (until (is_mark (codes ",")) port_at (phrase (codes ") ;"))))
+head_at = opened (codes "( input wire clk , input wire rst")
+    (made first (until (is_mark (codes ",")) port_at (phrase (codes ") ;"))))
 
 abbrev pub goes_on : Token → Bool
 goes_on t = not (is_mark (codes "endmodule") t)
 
 -- a leaf from its name on, with the word that begins the next module
 unfoldable pub leaf_at : Reader values.Leaf
-leaf_at = made (λ x. record { name = x.0; ports = x.1.0; items = x.1.1.0 }) (both (one the_name) (λ n. both head_at (λ ports. until goes_on item_at (phrase (codes "endmodule module")))))
+leaf_at = made (λ x. record { name = x.0; ports = x.1.0; items = x.1.1.0 })
+    (both (one the_name) (λ n. both head_at (λ ports. until goes_on item_at (phrase (codes "endmodule module")))))
 
 unfoldable pub join_at : Reader Join
-join_at = opened (codes ", .") (made (λ x. record { port = x.0; net = x.1 }) (both (closed (one the_name) (codes "(")) (λ p. closed (one the_name) (codes ")"))))
+join_at = opened (codes ", .") (made (λ x. record { port = x.0;
+    net = x.1 }) (both (closed (one the_name) (codes "(")) (λ p. closed (one the_name) (codes ")"))))
 
 unfoldable pub instance_at : Reader TopItem
-instance_at = made (λ x. Instance x.0 x.1.0 x.1.1.0) (both (one the_name) (λ l. both (closed (one the_name) (codes "( . clk ( clk ) , . rst ( rst )")) (λ n.
+instance_at = made (λ x. Instance x.0 x.1.0 x.1.1.0)
+    (both (one the_name) (λ l. both (closed (one the_name) (codes "( . clk ( clk ) , . rst ( rst )")) (λ n.
     until (is_mark (codes ",")) join_at (phrase (codes ") ;")))))
 
 unfoldable pub top_item_at : Reader TopItem
@@ -315,10 +326,12 @@ top_item_at = either (is_mark (codes "wire")) (made (λ x. Wire x.0 x.1) wire_at
 
 -- the top from its word noc on
 unfoldable pub top_at : Reader Top
-top_at = opened (codes "noc") (made (λ x. record { ports = x.0; items = x.1.0 }) (both head_at (λ ports. until goes_on top_item_at (phrase (codes "endmodule")))))
+top_at = opened (codes "noc") (made (λ x. record { ports = x.0;
+    items = x.1.0 }) (both head_at (λ ports. until goes_on top_item_at (phrase (codes "endmodule")))))
 
 unfoldable pub modules_at : Reader Design
-modules_at = opened (codes "module") (made (λ x. record { leaves = x.0; top = x.1 }) (until is_name_token leaf_at top_at))
+modules_at = opened (codes "module") (made (λ x. record { leaves = x.0;
+    top = x.1 }) (until is_name_token leaf_at top_at))
 
 abbrev pub ended_at : Design → List Placed → Result Design ℕ
 ended_at d [] = Ok d

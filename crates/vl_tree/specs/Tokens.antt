@@ -71,7 +71,8 @@ is_word r = list_any (bytes_eq r) words
 
 -- at most 64 letters, digits and underscores, at first a letter, with an underscore and a digit
 abbrev pub is_name_rest : List ℕ → Bool
-is_name_rest bs = list_all is_run bs && nat_lt (length bs) 64 && list_any (λ c. c == 95) bs && list_any is_ascii_digit bs
+is_name_rest bs = list_all is_run bs && nat_lt (length bs) 64 && list_any (λ c. c == 95) bs
+    && list_any is_ascii_digit bs
 
 abbrev pub is_name : List ℕ → Bool
 is_name [] = false
@@ -86,7 +87,8 @@ is_plain r = all_digits 10 r && nat_lt 0 (length r) && nat_lt (length r) 10
 
 -- 1 or 2 decimal digits, the first of them not 0, of a value up to 64
 abbrev pub is_width : List ℕ → Bool
-is_width r = all_digits 10 r && not (next_is 48 r) && nat_lt 0 (length r) && nat_lt (length r) 3 && nat_le (digits_value 10 r) 64
+is_width r = all_digits 10 r && not (next_is 48 r) && nat_lt 0 (length r) && nat_lt (length r) 3
+    && nat_le (digits_value 10 r) 64
 
 -- the base that a letter names, and 0 where it names none
 abbrev pub base_of : ℕ → ℕ
@@ -94,7 +96,8 @@ base_of b = if b == 98 then 2 else if b == 100 then 10 else if b == 104 then 16 
 
 -- 1 to 64 digits of the base, of a value below two to the width
 abbrev pub is_value : ℕ → ℕ → List ℕ → Bool
-is_value width base ds = all_digits base ds && nat_lt 0 (length ds) && nat_lt (length ds) 65 && nat_lt (digits_value base ds) (2 ^ width)
+is_value width base ds = all_digits base ds && nat_lt 0 (length ds) && nat_lt (length ds) 65
+    && nat_lt (digits_value base ds) (2 ^ width)
 
 -- the constant of a width, of a run behind its quote, and of the bytes after that run. A question mark directly
 -- behind a binary or hexadecimal one is refused

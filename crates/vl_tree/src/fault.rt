@@ -2,8 +2,8 @@
 use std::alloc::AllocError;
 use thiserror::Error;
 
-/// The first fault of a text. The first three carry an offset, the number of bytes before the fault; the others carry the
-/// number of an item, or for `Ports` a position in the top's port list, all from 0.
+/// The first fault of a text. The first three carry an offset, the number of bytes before the fault; the others carry
+/// the number of an item, or for `Ports` a position in the top's port list, all from 0.
 #[derive(Debug, Drop, Error)]
 pub enum TextFault {
     /// A byte is no tab, LF, CR or printable ASCII character.

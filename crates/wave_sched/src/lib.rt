@@ -1,8 +1,8 @@
 //! The wave schedule: links are shared by time, and the slots of the domains move with the packets like a wave.
 //!
-//! `owner` is the slot owner of a link in a cycle, as `noc_model` defines it, computed with a few divisions. A `Wheel` has
-//! the owners of all links of a tile, cycle after cycle and without a division, also of those on which flits arrive.
-//! Which domain then sends is left to the switch above.
+//! `owner` is the slot owner of a link in a cycle, as `noc_model` defines it, computed with a few divisions. A
+//! `Wheel` has the owners of all links of a tile, cycle after cycle and without a division, also of those on which
+//! flits arrive. Which domain then sends is left to the switch above.
 #![tactic(auto)]
 
 ghost use Rattle.std.specs.Prelude.{◌≡◌, ◌<◌, ◌≤◌, ◌+◌, ◌-◌, ◌*◌, ◌%◌, ◌^◌, length, pos, IsSome};

@@ -10,8 +10,8 @@ use crate::{earlier_slot, later_slot, wave};
 use noc_model::{Plan, Way};
 use std::alloc::{AllocError, Global};
 
-/// The slots of a port's two links: in cycle 0 of the link that leaves by it, and of the link that arrives there as many
-/// cycles before as a flit is on it.
+/// The slots of a port's two links: in cycle 0 of the link that leaves by it, and of the link that arrives there as
+/// many cycles before as a flit is on it.
 #[derive(Clone, Copy)]
 pub(crate) struct PortSlots {
     pub leaving: u32,

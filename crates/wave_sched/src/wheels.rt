@@ -86,8 +86,8 @@ impl Wheel {
         owner_at(&self.slots, self.starts[port as usize].leaving, self.turn)
     }
 
-    /// The domain that owned the link that arrives by the port when a flit that arrives now went onto it: `stages` cycles
-    /// ago, also before cycle 0. The port has a link.
+    /// The domain that owned the link that arrives by the port when a flit that arrives now went onto it: `stages`
+    /// cycles ago, also before cycle 0. The port has a link.
     pub fn arriving(&self, port: u32) -> u32
         requires { port < wheel_ports self.now }
         ensures value { (p : PlanValue) (n t m : ℕ) → Stands self.now p n t → neighbour p n port ≡ Some m

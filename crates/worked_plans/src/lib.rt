@@ -1,7 +1,7 @@
 //! Worked plans: small networks that tests simulate, write and read.
 //!
-//! Each function makes one plan. Its contract promises the plan of the same name among the examples of `noc_model`, so a
-//! test's proof can compute with it. What is worked out over a plan, and by hand, is left to the tests.
+//! Each function makes one plan. Its contract promises the plan of the same name among the examples of `noc_model`,
+//! so a test's proof can compute with it. What is worked out over a plan, and by hand, is left to the tests.
 #![tactic(auto)]
 
 ghost use Rattle.std.specs.Prelude.{◌≡◌, map, take, IfOk};
@@ -91,8 +91,8 @@ pub fn one_tile(alloc: Global) -> Result<Plan, AllocError>
     plan_in(alloc, &shape)
 }
 
-/// Two tiles in a row, which both host the domains `a` and `b`. Tile 0 answers the addresses 0 to 0xff, and tile 1 those
-/// from 0x100 to 0x1ff.
+/// Two tiles in a row, which both host the domains `a` and `b`. Tile 0 answers the addresses 0 to 0xff, and tile 1
+/// those from 0x100 to 0x1ff.
 pub fn two_tiles(alloc: Global) -> Result<Plan, AllocError>
     ensures { IfOk result (λ plan. plan ≡ examples.two_tiles) }
 {
