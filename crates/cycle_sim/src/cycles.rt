@@ -113,7 +113,7 @@ fn push_seen(events: &mut Events, t: u32, plan: &Plan, seen: &Seen) -> Result<()
 }
 
 /// The events of the cycles from 0 to `cycles` - 1, of all domains in one list. Those of each domain are the events
-/// of a run of this domain alone, and network and driver then stand as after that run. Where memory is wanting they
+/// of a run of this domain alone, and network and driver then stand as after that run. Where memory runs out they
 /// stand as after the whole cycles below the network's.
 pub fn run<D: Drive>(
     alloc: Global,

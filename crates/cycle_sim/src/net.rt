@@ -90,8 +90,8 @@ impl Net {
         &self.plan
     }
 
-    /// One cycle: each domain's state goes on as if the domain were alone, the driver is told what was taken and got,
-    /// and what was seen is kept. Takes no memory.
+    /// One cycle: each domain's state goes on as if the domain were alone, the driver is notified of what was taken
+    /// and got, and what was seen is kept. Takes no memory.
     pub fn step<D: Drive>(&mut self, drive: &mut D, seen: &mut Seen)
         requires cycle { self.old.cycle < most_cycles }
         requires count { D.count drive.old ≡ length self.old.plan.hosts }

@@ -5,7 +5,7 @@ use Rattle.std.specs.List.{flat_map}
 use Rattle.noc_desc.specs.declared.DescFault.{DescFault}
 use Rattle.noc_desc.specs.declared.DescFault.TheVariants.{NotToml, KeyUnknown, KeyMissing, KeyKind, Version, Shape, Dims, Stages, Buffer, DomainCount, DomainName, DomainTwice, Channels, TileRange, TileTwice, HostUnknown, HostTwice, RangeTile, RangeOrder, RangeOverlap, PlacesMany, AttachMany, SlotCount, SlotUnknown, SlotMissing, Memory}
 
--- the number of a fault; want of memory has none
+-- the number of a fault; that memory ran out has none
 abbrev pub fault_number : DescFault → Option ℕ
 fault_number NotToml = Some 1
 fault_number (KeyUnknown kind element key) = Some 2

@@ -7,7 +7,7 @@ ghost use Rattle.desc_check.specs.Line.{fault_number, indices_of, head_of, space
 use noc_desc::DescFault;
 use surf_base::{put_at, put_labelled_at, put_number_at};
 
-/// The number of a fault; want of memory has none.
+/// The number of a fault; that memory ran out has none.
 fn fault_number(fault: &DescFault) -> Option<u64>
     ensures number { result ≡ fault_number fault.now }
     ensures few { IfSome result (λ n. n ≤ 25) }

@@ -1,4 +1,4 @@
-//! What happens in a cycle, and what the driver is told of it.
+//! What happens in a cycle, and what the driver is notified of.
 
 ghost use Rattle.std.specs.Prelude.{◌≡◌, ◌≢◌, ◌<◌, ◌++◌, ◌∷◌, [], ◌&&◌, is_some, if◌then◌else◌, ℕ, true, length, IsSome, OnOk};
 ghost use Rattle.noc_model.specs.Plan.{tiles, hosts};

@@ -3,7 +3,7 @@ use Rattle.std.specs.Prelude.{◌≡◌, ℕ, Result, Ok, Err}
 use Rattle.vl_read.specs.declared.error.ReadError.{ReadError}
 use Rattle.vl_read.specs.declared.error.ReadError.TheVariants.{Memory, At}
 
--- the error of the code where reading gives this; want of memory is always allowed
+-- the error of the code where reading gives this; that memory runs out is always allowed
 abbrev pub Fails : {Y : Type 0} → ReadError → Result Y ℕ → Type 0
 Fails (Memory e) read = Unit {0}
 Fails (At n) read = read ≡ Err n
