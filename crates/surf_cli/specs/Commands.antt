@@ -28,7 +28,7 @@ routes_words _ = None
 abbrev pub simulate_words : List (List ℕ) → Option Command
 simulate_words (description ∷ trace ∷ cycles ∷ []) =
     option_map (λ n. command (file_of Description description ∷ file_of Trace trace ∷ []) (Simulate n))
-        (decimal_in most_cycles cycles)
+    (decimal_in most_cycles cycles)
 simulate_words _ = None
 
 -- upgrade DESC
