@@ -53,6 +53,27 @@ domain = [{name = \"a\", channels = 1}]\n\
 tile = [{at = 0, domains = [\"a\"]}]\n\
 range = [{tile = 0, first = 0x10, last = 0x1f}]\n";
 
+const SHARED_CORNERS: &str =
+    "version = 1\nshape = \"mesh\"\ndims = [4, 4]\nstages = 1\nbuffer = 4\n\
+domain = [{name = \"d0\", channels = 1}, {name = \"d1\", channels = 1},\n\
+{name = \"d2\", channels = 1}, {name = \"d3\", channels = 1}]\n\
+tile = [{at = 0, domains = [\"d0\", \"d1\", \"d2\", \"d3\"]}, {at = 1, domains = [\"d1\"]},\n\
+{at = 2, domains = [\"d2\"]}, {at = 3, domains = [\"d0\", \"d1\", \"d2\", \"d3\"]},\n\
+{at = 4, domains = [\"d0\"]}, {at = 5, domains = [\"d1\"]},\n\
+{at = 6, domains = [\"d2\"]}, {at = 7, domains = [\"d3\"]},\n\
+{at = 8, domains = [\"d0\"]}, {at = 9, domains = [\"d1\"]},\n\
+{at = 10, domains = [\"d2\"]}, {at = 11, domains = [\"d3\"]},\n\
+{at = 12, domains = [\"d0\", \"d1\", \"d2\", \"d3\"]}, {at = 13, domains = [\"d1\"]},\n\
+{at = 14, domains = [\"d2\"]}, {at = 15, domains = [\"d0\", \"d1\", \"d2\", \"d3\"]}]\n\
+range = [{tile = 0, first = 0x0, last = 0xfff}, {tile = 1, first = 0x1000, last = 0x1fff},\n\
+{tile = 2, first = 0x2000, last = 0x2fff}, {tile = 3, first = 0x3000, last = 0x3fff},\n\
+{tile = 4, first = 0x4000, last = 0x4fff}, {tile = 5, first = 0x5000, last = 0x5fff},\n\
+{tile = 6, first = 0x6000, last = 0x6fff}, {tile = 7, first = 0x7000, last = 0x7fff},\n\
+{tile = 8, first = 0x8000, last = 0x8fff}, {tile = 9, first = 0x9000, last = 0x9fff},\n\
+{tile = 10, first = 0xa000, last = 0xafff}, {tile = 11, first = 0xb000, last = 0xbfff},\n\
+{tile = 12, first = 0xc000, last = 0xcfff}, {tile = 13, first = 0xd000, last = 0xdfff},\n\
+{tile = 14, first = 0xe000, last = 0xefff}, {tile = 15, first = 0xf000, last = 0xffff}]\n";
+
 /// Runs the words over a description `d` and a trace `t`, and answers the status and what is on the output and the
 /// error stream.
 fn run(
@@ -129,6 +150,13 @@ fn each_command_gives_its_status_and_bytes(rt: HostRuntime) -> Result<(), Fail> 
             Some(CUBE),
             Status::Good,
             "accepted tiles 8 domains 1 places 112 hop 4\n",
+            "",
+        ),
+        (
+            "check d",
+            Some(SHARED_CORNERS),
+            Status::Good,
+            "accepted tiles 16 domains 4 places 1280 hop 4\n",
             "",
         ),
         (
