@@ -11,7 +11,8 @@ from_on from set k = nat_le from k && set k
 
 -- whether a comes before b from the pointer on, round the turn
 abbrev pub comes_first : ℕ → ℕ → ℕ → Bool
-comes_first pointer a b = if nat_le pointer a then (nat_lt b pointer || nat_lt a b) else (nat_lt b pointer && nat_lt a b)
+comes_first pointer a b =
+    if nat_le pointer a then (nat_lt b pointer || nat_lt a b) else (nat_lt b pointer && nat_lt a b)
 
 -- the choice, with one member more
 abbrev pub better : ℕ → Option ℕ → ℕ → Option ℕ

@@ -93,7 +93,8 @@ pub fn place(plan: &Plan, d: u32, port: u32, ch: u32) -> u32
 ///
 /// When memory runs out.
 pub fn input_counts(alloc: Global, plan: &Plan) -> Result<Vec<u32>, AllocError>
-    ensures value { IfOk result (λ v. v.items ≡ map (input_count plan.now) (range_with_len 0 (length plan.now.domains))) }
+    ensures value { IfOk result (λ v. v.items
+        ≡ map (input_count plan.now) (range_with_len 0 (length plan.now.domains))) }
     ensures few { IfOk result (λ v. total v.items ≤ 896) }
 {
     plan.known();
