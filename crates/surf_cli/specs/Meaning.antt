@@ -33,11 +33,6 @@ pub data Work : Type 0 where
   Exactly : (bytes : List ℕ) → Work
   UpgradeOf : (plan : Plan) → Work
 
--- these bytes are right for what is to be written
-abbrev pub IsRight : Work → List ℕ → Type 0
-IsRight (Exactly right) bytes = bytes ≡ right
-IsRight (UpgradeOf plan) bytes = table_of bytes ≡ Some (document (upgrade_of plan))
-
 -- what a command comes to: a text is written, or the run ends so
 pub data Outcome : Type 0 where
   Does : (work : Work) → Outcome
@@ -71,6 +66,13 @@ judged_draft None (Some draft) = judged_plan (first_fault draft) (plan_of_draft 
 unfoldable pub judged : List ℕ → Judged
 judged bytes = judged_draft (table.first_fault bytes) (draft_of bytes)
 
+-- these bytes are right for what is to be written: an upgrade is the document of the plan's draft of version 2, and as a
+-- description it is accepted, with the same plan
+abbrev pub IsRight : Work → List ℕ → Type 0
+IsRight (Exactly right) bytes = bytes ≡ right
+IsRight (UpgradeOf plan) bytes = (table_of bytes ≡ Some (document (upgrade_of plan))) × (judged bytes ≡ Described plan)
+
+-- what a command goes on to with what a description says
 abbrev pub with_judged : Judged → (Plan → Outcome) → Outcome
 with_judged (Faulty fault) next = refuses (Description fault)
 with_judged (Described plan) next = next plan

@@ -5,7 +5,9 @@ use std::test::Fail;
 use surf_base::{MemFiles, MemSink};
 
 const TWO_TILES: &str = "version = 1\nshape = \"mesh\"\ndims = [2]\nstages = 2\nbuffer = 2\n\
-domain = [{name = \"a\", channels = 1}, {name = \"b\", channels = 1}]\n";
+domain = [{name = \"a\", channels = 1}, {name = \"b\", channels = 1}]\n\
+tile = [{at = 0, domains = [\"a\", \"b\"]}, {at = 1, domains = [\"a\", \"b\"]}]\n\
+range = [{tile = 0, first = 0x0, last = 0xff}, {tile = 1, first = 0x100, last = 0x1ff}]\n";
 
 const OVERLAPPING: &str = "version = 1\nshape = \"mesh\"\ndims = [2]\nstages = 1\nbuffer = 2\n\
 domain = [{name = \"a\", channels = 1}, {name = \"b\", channels = 1}]\n\
@@ -260,13 +262,18 @@ fn routes_take_the_shorter_way_round(rt: HostRuntime) -> Result<(), Fail> {
 
 #[test]
 fn an_upgraded_description_says_the_same_plan(rt: HostRuntime) -> Result<(), Fail> {
-    let (status, text, err) = run(&rt, "upgrade d", Some(TWO_TILES.as_bytes()), None, &[], &[])?;
+    let content = Some(TWO_TILES.as_bytes());
+    let (status, text, err) = run(&rt, "upgrade d", content, None, &[], &[])?;
     assert!(rt; status == Status::Good);
     assert_eq!(rt; err.as_str(), "");
-    let content = Some(text.as_bytes());
-    let (_, table, _) = run(&rt, "schedule d 2", content, None, &[], &[])?;
-    assert_eq!(rt; table.as_str(), "0 0 1 a\n0 1 2 b\n1 0 1 b\n1 1 2 a\n");
-    let (_, again, _) = run(&rt, "upgrade d", content, None, &[], &[])?;
+    let upgraded = Some(text.as_bytes());
+    for words in ["check d", "routes d", "schedule d 2"] {
+        let (_, before, _) = run(&rt, words, content, None, &[], &[])?;
+        let (status, after, _) = run(&rt, words, upgraded, None, &[], &[])?;
+        assert!(rt; status == Status::Good);
+        assert_eq!(rt; after.as_str(), before.as_str());
+    }
+    let (_, again, _) = run(&rt, "upgrade d", upgraded, None, &[], &[])?;
     assert_eq!(rt; again.as_str(), text.as_str());
     Ok(())
 }
