@@ -13,20 +13,20 @@ use Rattle.desc_check.specs.Network.{plan_of_draft}
 use Rattle.desc_check.specs.Accepted.{first_fault}
 use Rattle.trace_read.specs.declared.entries.Entry.{Entry}
 use Rattle.trace_read.specs.declared.fault.TraceFault.{TraceFault}
-use Rattle.trace_read.specs.Entries.{entries}
+use Rattle.trace_read.specs.Entries.{entries, domain_named}
 use Rattle.trace_read.specs.Accepted as trace
 use Rattle.surf_cli.specs.declared.files.FileKind.{FileKind}
 use Rattle.surf_cli.specs.declared.statuses.End.{End}
 use Rattle.surf_cli.specs.declared.statuses.End.TheVariants.{Good, Usage, Refused, Read, TooLong}
 use Rattle.surf_cli.specs.declared.refusals.Refusal.{Refusal}
-use Rattle.surf_cli.specs.declared.refusals.Refusal.TheVariants.{Description, NotBuilt, Trace}
+use Rattle.surf_cli.specs.declared.refusals.Refusal.TheVariants.{Description, NoDomain, NotBuilt, Trace}
 use Rattle.surf_cli.specs.Files.{NamedFile, limit_of}
 use Rattle.surf_cli.specs.Contents.{Contents, nothing, with_content}
-use Rattle.surf_cli.specs.Jobs.{Job, Schedule, Check, Routes, Simulate, Upgrade, Command}
+use Rattle.surf_cli.specs.Jobs.{Job, Schedule, Check, Routes, Simulate, Report, Upgrade, Command}
 use Rattle.surf_cli.specs.Schedule.{schedule_text}
 use Rattle.surf_cli.specs.Accepted.{accepted_text}
 use Rattle.surf_cli.specs.Routes.{routes_text}
-use Rattle.surf_cli.specs.Simulate.{is_built, reports_text}
+use Rattle.surf_cli.specs.Simulate.{is_built, reports_text, report_text}
 
 -- what is to be written: these bytes, or a document of version 2 that says this plan
 pub data Work : Type 0 where
@@ -81,6 +81,15 @@ with_judged (Described plan) next = next plan
 abbrev pub with_plan : List ℕ → (Plan → Outcome) → Outcome
 with_plan bytes next = with_judged (judged bytes) next
 
+-- what a command goes on to with a domain that was found
+abbrev pub if_found : Option ℕ → (ℕ → Outcome) → Outcome
+if_found None next = refuses NoDomain
+if_found (Some d) next = next d
+
+-- what a command goes on to with the domain of a name
+abbrev pub with_domain : Plan → List ℕ → (ℕ → Outcome) → Outcome
+with_domain p name next = if_found (domain_named p name) next
+
 -- what a simulation goes on to: not all networks are built yet
 abbrev pub with_built : Plan → Outcome → Outcome
 with_built p next = if is_built p then next else refuses NotBuilt
@@ -100,6 +109,8 @@ over Check held = with_plan held.description (λ p. Does (Exactly (accepted_text
 over Routes held = with_plan held.description (λ p. Does (Exactly (routes_text p)))
 over (Simulate cycles) held =
     with_plan held.description (λ p. with_built p (with_trace p held.trace (λ es. Does (Exactly (reports_text p es cycles)))))
+over (Report cycles name) held =
+    with_plan held.description (λ p. with_domain p name (λ d. with_built p (with_trace p held.trace (λ es. Does (Exactly (report_text p es cycles d))))))
 over Upgrade held = with_plan held.description (λ p. Does (UpgradeOf p))
 
 -- what a command goes on to with a file, which is absent or holds some bytes

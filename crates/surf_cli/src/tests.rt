@@ -308,6 +308,7 @@ fn statuses_have_their_numbers(rt: HostRuntime) {
         (Status::Write, 7),
         (Status::Memory, 8),
         (Status::TooLong, 9),
+        (Status::Domain, 10),
     ];
     for (status, number) in rows {
         assert_eq!(rt; status.number(), number);
@@ -342,6 +343,12 @@ fn one_tile_gives_its_reports(rt: HostRuntime) -> Result<(), Fail> {
 4 0 take 00000002\n5 0 wait 00000003\n6 0 wait 00000003\n7 0 wait 00000003\n8 0 wait 00000003\n\
 9 0 wait 00000003\n10 0 wait 00000003\n10 0 got 11 00000001\n11 0 take 00000003\n\
 11 0 got 11 00000002\n15 0 got 11 00000003\nend 3 9 0 3\n",
+        ),
+        (
+            "report d t 6 a",
+            ONE_TILE,
+            ONE_WORD,
+            "domain a\n0 0 take 0000002a\n4 0 got 11 0000002a\nend 1 0 0 1\n",
         ),
         (
             "simulate d t 4",
@@ -460,6 +467,41 @@ fn refused_simulations_say_why(rt: HostRuntime) -> Result<(), Fail> {
             "0 0 a send 10",
             Status::Trace,
             "surf: trace fault 6 line 1\n",
+        ),
+        (
+            "report d t 6 z",
+            ONE_TILE,
+            ONE_WORD,
+            Status::Domain,
+            "surf: no such domain\n",
+        ),
+        (
+            "report d t 6 z",
+            ONE_TILE,
+            "0 0 a send 10",
+            Status::Domain,
+            "surf: no such domain\n",
+        ),
+        (
+            "report d t 6 a",
+            ONE_TILE,
+            "0 0 a send 10",
+            Status::Trace,
+            "surf: trace fault 6 line 1\n",
+        ),
+        (
+            "report d t 6 z",
+            "",
+            ONE_WORD,
+            Status::Description,
+            "surf: description fault 3 0 0 0\n",
+        ),
+        (
+            "report d t 6",
+            ONE_TILE,
+            ONE_WORD,
+            Status::Usage,
+            "surf: usage\n",
         ),
     ];
     for (words, content, trace, status, line) in rows {
