@@ -1,0 +1,14 @@
+pub mod Steps
+pub mod Emitting
+pub mod Items
+pub mod Room
+pub mod Acted
+pub mod Exact
+pub mod Able
+pub mod Computed
+pub mod Narrow
+pub mod Fair
+pub mod Ruled
+pub mod Settled
+pub mod Readied
+pub mod Stored

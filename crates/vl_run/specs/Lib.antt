@@ -1,0 +1,7 @@
+pub mod Step
+pub mod Emit
+pub mod Program
+pub mod State
+pub mod Places
+pub mod Start
+pub mod Top

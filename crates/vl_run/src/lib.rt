@@ -1,0 +1,9 @@
+//! A sound design, run cycle by cycle.
+#![tactic(auto)]
+
+mod cells;
+mod emit;
+mod parts;
+mod program;
+mod state;
+mod step;
