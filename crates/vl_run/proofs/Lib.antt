@@ -12,3 +12,5 @@ pub mod Ruled
 pub mod Settled
 pub mod Readied
 pub mod Stored
+pub mod Linked
+pub mod Standing

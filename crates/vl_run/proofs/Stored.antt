@@ -17,6 +17,7 @@ use Rattle.vl_model.proofs.Ordered.{kind-of}
 use Rattle.vl_run.specs.Step.{word_at}
 use Rattle.vl_run.specs.Program.{stores_of, stored_in}
 use Rattle.vl_run.specs.Places.{ArePlaces}
+use Rattle.vl_run.specs.Rows.{Rows}
 use Rattle.vl_run.proofs.Narrow.{AreNarrow}
 use Rattle.vl_run.proofs.Ruled.{Ruled, ItemRuled}
 use Rattle.vl_run.proofs.Settled.{Words}
@@ -36,12 +37,6 @@ module _ (all : List Line) (s : Name → ℕ) (places : ArePlaces all s) where
   abbrev W : Widths
   W = widths all
 
-  -- the memories' words, and a row of the right length for each
-  pub record Rows (ms : List (List ℕ)) (u : Values) : Type 0 where
-    pub there : (n : Name) → is_kind is_memory all n ≡ true → s n < length ms
-    pub long : (n : Name) → is_kind is_memory all n ≡ true → length (slice_index_or ms (s n) []) ≡ word_count (lookup all n)
-    pub word : (n : Name) (i : ℕ) → is_kind is_memory all n ≡ true → i < word_count (lookup all n) → word_at ms (s n) i ≡ u.word n i
-
   memories-apart : (n k : Name) → is_kind is_memory all n ≡ true → is_kind is_memory all k ≡ true → bytes_eq k n ≡ false → s k ≢ s n
   memories-apart n k a b other same =
       let x = kind-of is_memory all n a in
@@ -54,7 +49,7 @@ module _ (all : List Line) (s : Name → ℕ) (places : ArePlaces all s) where
   abbrev pub with_word : Values → Name → ℕ → ℕ → Values
   with_word u n i x = record { net = u.net; word = λ a j. if bytes_eq a n && (i == j) then x else u.word a j }
 
-  pub write-row : (ms : List (List ℕ)) (u : Values) (n : Name) (i x : ℕ) → is_kind is_memory all n ≡ true → i < word_count (lookup all n) → Rows ms u → Rows (written ms (s n) i x) (with_word u n i x)
+  pub write-row : (ms : List (List ℕ)) (u : Values) (n : Name) (i x : ℕ) → is_kind is_memory all n ≡ true → i < word_count (lookup all n) → Rows all s ms u → Rows all s (written ms (s n) i x) (with_word u n i x)
   write-row ms u n i x known h r = record {
     there = λ a k. (let t = r.there a k in let e = length-set ms (s n) (slice_set (slice_index_or ms (s n) []) i x) in omega arith);
     long = λ a k. long-at a k (bytes_eq a n) refl;
@@ -87,7 +82,7 @@ module _ (all : List Line) (s : Name → ℕ) (places : ArePlaces all s) where
       word-of a j k w false other = rw other (ap (λ z. slice_index z j) (other-row ms (s n) i x (s a) (memories-apart n a known k other)) ∙ r.word a j k w)
 
   -- rows that hold one word hold another of the same numbers
-  same-words : (ms : List (List ℕ)) (u t : Values) → ((n : Name) (i : ℕ) → u.word n i ≡ t.word n i) → Rows ms u → Rows ms t
+  same-words : (ms : List (List ℕ)) (u t : Values) → ((n : Name) (i : ℕ) → u.word n i ≡ t.word n i) → Rows all s ms u → Rows all s ms t
   same-words ms u t e r = record { there = r.there; long = r.long; word = λ n i k h. r.word n i k h ∙ e n i }
 
   module _ (most : AreNarrow (widths all)) (m : ℕ → ℕ → ℕ) (v : Values) (small : AreSmall (widths all) v) (words : Words all s places most m v) where
@@ -99,7 +94,7 @@ module _ (all : List Line) (s : Name → ℕ) (places : ArePlaces all s) where
     StillOld is u = (n : Name) (j : ℕ) → is_stored is n ≡ true → u.word n j ≡ v.word n j
 
     pub stores : (is : List Item) (free : ℕ) (nets : List ℕ) (u : Values) (ms : List (List ℕ)) → AllByRecursion (ItemRuled all) is → AreOnce is → StillOld is u
-        → Readied all s places most m v small words free is (slice_index nets) → Rows ms u → Rows (stored_in nets (stores_of s free is) ms) (stepped W v is u)
+        → Readied all s places most m v small words free is (slice_index nets) → Rows all s ms u → Rows all s (stored_in nets (stores_of s free is) ms) (stepped W v is u)
     stores [] free nets u ms r o old ready rows = rows
     stores (wire a n ∷ is) free nets u ms r o old ready rows = stores is free nets u ms r.1 o old ready rows
     stores (reg a n ∷ is) free nets u ms r o old ready rows = stores is free nets u ms r.1 o old ready rows
@@ -155,11 +150,11 @@ module _ (all : List Line) (s : Name → ℕ) (places : ArePlaces all s) where
                 rw (same, off) (ap (λ z. u.word z j) one ∙ here j)
             pick false other = rw other refl
 
-        go : (b : Bool) → (slice_index nets free == 1) ≡ b → Rows (if slice_index nets free == 1 then written ms (s n) (slice_index nets (free + 1)) (slice_index nets (free + 1 + 1)) else ms) (Next u n c i e)
+        go : (b : Bool) → (slice_index nets free == 1) ≡ b → Rows all s (if slice_index nets free == 1 then written ms (s n) (slice_index nets (free + 1)) (slice_index nets (free + 1 + 1)) else ms) (Next u n c i e)
         go true on =
             let wrote = write-row ms u n (value_of W v i) (value_of W v e) r.0.0 inside rows in
             let same = same-words (written ms (s n) (value_of W v i) (value_of W v e)) (with_word u n (value_of W v i) (value_of W v e)) (Next u n c i e) (λ a j. taken a j (enabled true on)) wrote in
             let at : written ms (s n) (slice_index nets (free + 1)) (slice_index nets (free + 1 + 1)) ≡ written ms (s n) (value_of W v i) (value_of W v e)
                 = ap (λ z. written ms (s n) z (slice_index nets (free + 1 + 1))) ready.1 ∙ ap (λ z. written ms (s n) (value_of W v i) z) ready.2 in
-            rw on (subst (λ z. Rows z (Next u n c i e)) (sym at) same)
+            rw on (subst (λ z. Rows all s z (Next u n c i e)) (sym at) same)
         go false off = rw off (same-words ms u (Next u n c i e) (λ a j. left a j (enabled false off)) rows)

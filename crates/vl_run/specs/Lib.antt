@@ -5,3 +5,5 @@ pub mod State
 pub mod Places
 pub mod Start
 pub mod Top
+pub mod Rows
+pub mod Stands
