@@ -14,3 +14,6 @@ pub mod Readied
 pub mod Stored
 pub mod Linked
 pub mod Standing
+pub mod Placed
+pub mod Begun
+pub mod Fresh

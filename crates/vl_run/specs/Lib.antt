@@ -7,3 +7,4 @@ pub mod Start
 pub mod Top
 pub mod Rows
 pub mod Stands
+pub mod Fresh

@@ -11,12 +11,12 @@ inputs_of (p ∷ ps) xs n =
     else if bytes_eq n p.name then slice_index xs 0
     else inputs_of ps (drop 1 xs) n
 
--- the top's nets with them, where names stand at t
-abbrev pub with_ports : (Name → ℕ) → List Port → List ℕ → List ℕ → List ℕ
-with_ports t [] xs tops = tops
-with_ports t (p ∷ ps) xs tops =
-    if p.output then with_ports t ps xs tops
-    else with_ports t ps (drop 1 xs) (slice_set tops (t p.name) (slice_index xs 0))
+-- the top's nets with them, where the ports stand at these places
+abbrev pub with_ports : List Port → List ℕ → List ℕ → List ℕ → List ℕ
+with_ports [] places xs tops = tops
+with_ports (p ∷ ps) places xs tops =
+    if p.output then with_ports ps (drop 1 places) xs tops
+    else with_ports ps (drop 1 places) (drop 1 xs) (slice_set tops (slice_index places 0) (slice_index xs 0))
 
 -- the places of ports
 abbrev pub places_of : (Name → ℕ) → List Port → List ℕ

@@ -1,12 +1,24 @@
 //! All instances, and the top's nets between them.
-ghost use Rattle.std.specs.Prelude.{◌≡◌, map};
-ghost use Rattle.vl_run.specs.State.{part_settled, part_edged, shown_by};
+ghost use Rattle.std.specs.Prelude.{◌≡◌, List, [], ◌∷◌, ◌++◌, map, IfOk, OnOk};
+ghost use Rattle.std.specs.List.{AllByRecursion};
+ghost use Rattle.vl_tree.specs.declared.tree.TopItem.{TopItem};
+ghost use Rattle.vl_tree.specs.Read.{read_leaf, read_leaves};
+ghost use Rattle.vl_model.specs.Lines.{leaf_lines};
+ghost use Rattle.vl_rules.specs.Scope.{Declares};
+ghost use Rattle.vl_rules.specs.Library.{IsLibrary};
+ghost use Rattle.vl_run.specs.Emit.{place_in};
 ghost use Rattle.vl_run.specs.Program.{linked};
+ghost use Rattle.vl_run.specs.State.{part_settled, part_edged, shown_by};
+ghost use Rattle.vl_run.specs.Fresh.{IsFresh, AllFresh, HasLeaf};
 
 use crate::cells::Cells;
+use crate::emit::Scope;
 use crate::program::Program;
 use crate::state::{State, copy};
+use std::alloc::{AllocError, Global};
 use std::marker::Model;
+use vl_rules::{Known, Library};
+use vl_tree::{Join, TopItem};
 
 /// An instance: its code and its state.
 #[derive(Drop)]
@@ -70,4 +82,62 @@ pub(crate) fn show_all(parts: &[Part], tops: &mut Cells)
         i -= 1;
         parts[i].show(tops);
     }
+}
+
+impl Part {
+    // An instance of the leaf with these joins, at reset.
+    fn new(alloc: Global, leaf: &Known, joins: &[Join], top: &Scope) -> Result<Part, AllocError>
+        requires { Declares leaf.now.declared.now (leaf_lines (read_leaf leaf.now.leaf.now)) }
+        ensures { IfOk result (λ x. IsFresh (place_in top.now.declared.now) (read_leaf leaf.now.leaf.now) joins.now x) }
+    {
+        let program = Program::new(alloc, leaf, joins, top)?;
+        let state = State::new(alloc, leaf, &program)?;
+        Ok(Part { program, state })
+    }
+}
+
+// Adds the instance, if the item is one.
+fn add_part(
+    alloc: Global,
+    item: &TopItem,
+    library: &Library,
+    top: &Scope,
+    parts: &mut Vec<Part>,
+) -> Result<(), AllocError>
+    requires { IsLibrary library.now }
+    ensures { OnOk result ((is : List TopItem) → HasLeaf (read_leaves library.now.leaves.now) item.now
+        → AllFresh (place_in top.now.declared.now) (read_leaves library.now.leaves.now) is parts.old.items
+        → AllFresh (place_in top.now.declared.now) (read_leaves library.now.leaves.now) (is ++ item.now ∷ []) parts.new.items) }
+{
+    match item {
+        TopItem::Instance { leaf, joins, .. } => {
+            match library.leaf(library.leaves.len(), leaf.as_slice()) {
+                Some(known) => {
+                    let part = Part::new(alloc, &known, joins.as_slice(), top)?;
+                    parts.push(part)?;
+                    Ok(())
+                }
+                None => Ok(()),
+            }
+        }
+        TopItem::Wire { .. } => Ok(()),
+    }
+}
+
+/// The instances, at reset.
+pub(crate) fn fresh_parts(
+    alloc: Global,
+    items: &[TopItem],
+    library: &Library,
+    top: &Scope,
+) -> Result<Vec<Part>, AllocError>
+    requires library { IsLibrary library.now }
+    requires leaves { AllByRecursion (HasLeaf (read_leaves library.now.leaves.now)) items.now }
+    ensures { IfOk result (λ v. AllFresh (place_in top.now.declared.now) (read_leaves library.now.leaves.now) items.now v.items) }
+{
+    let mut parts = Vec::new(alloc);
+    for item in items {
+        add_part(alloc, item, library, top, &mut parts)?;
+    }
+    Ok(parts)
 }
