@@ -17,3 +17,4 @@ pub mod Standing
 pub mod Placed
 pub mod Begun
 pub mod Fresh
+pub mod Inputs

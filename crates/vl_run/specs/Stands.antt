@@ -6,7 +6,7 @@ use Rattle.vl_tree.specs.declared.tree.TopItem.{TopItem}
 use Rattle.vl_tree.specs.declared.tree.TopItem.TheVariants.{Wire, Instance}
 use Rattle.vl_tree.specs.Values.{Name, Leaf, Design}
 use Rattle.vl_model.specs.Meaning.{Values}
-use Rattle.vl_model.specs.Lines.{leaf_lines, top_lines, leaf_named, is_net, is_driven}
+use Rattle.vl_model.specs.Lines.{leaf_lines, top_lines, leaf_named, is_net, is_driven, is_input}
 use Rattle.vl_model.specs.Rules.{is_kind}
 use Rattle.vl_model.specs.Leaf.{leaf_widths, AreSmall}
 use Rattle.vl_model.specs.Settle.{net_value}
@@ -39,12 +39,12 @@ StandsAt t (Some l) joins x v = StandsIn t l joins x v
 
 -- the same of all instances, in the order of the items
 abbrev pub AllStand : (Name → ℕ) → List Leaf → (Name → Values) → List TopItem → List Part → Type 0
-AllStand t leaves inside [] xs = Unit {0}
+AllStand t leaves inside [] xs = xs ≡ []
 AllStand t leaves inside (Wire h n ∷ is) xs = AllStand t leaves inside is xs
 AllStand t leaves inside (Instance l n joins ∷ is) [] = ⊥
 AllStand t leaves inside (Instance l n joins ∷ is) (x ∷ xs) = StandsAt t (leaf_named leaves l) joins x (inside n) × AllStand t leaves inside is xs
 
--- a machine that stands at a state, by instance: all registers and memories have its numbers, and the top's wires and output
+-- a machine that stands at a state, by instance: all registers and memories have its numbers, and the top's nets but its input
 -- ports those that follow from it
 pub record Stands (m : Running) (inside : Name → Values) : Type 0 where
   pub top : Name → ℕ
@@ -52,7 +52,7 @@ pub record Stands (m : Running) (inside : Name → Values) : Type 0 where
   pub parts : AllStand top m.design.leaves inside m.design.top.items m.parts
   pub room : length (top_lines m.design.top) ≤ length m.tops
   pub ports : m.ports ≡ places_of top m.design.top.ports
-  pub tops : (n : Name) → is_kind is_driven (top_lines m.design.top) n ≡ true → (y : ℕ) → slice_index m.tops (top n) ≡ net_value m.design.leaves inside m.design.top.items n y
+  pub tops : (n : Name) → is_kind is_net (top_lines m.design.top) n ≡ true → is_kind is_input (top_lines m.design.top) n ≡ false → (y : ℕ) → slice_index m.tops (top n) ≡ net_value m.design.leaves inside m.design.top.items n y
 
 abbrev pub FitsPort : Bool → Port → List ℕ → (List ℕ → Type 0) → Type 0
 FitsPort true p xs rest = rest xs
