@@ -18,3 +18,4 @@ pub mod Placed
 pub mod Begun
 pub mod Fresh
 pub mod Inputs
+pub mod Whole

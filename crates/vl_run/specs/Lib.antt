@@ -8,3 +8,4 @@ pub mod Top
 pub mod Rows
 pub mod Stands
 pub mod Fresh
+pub mod Running

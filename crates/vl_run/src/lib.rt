@@ -3,7 +3,10 @@
 
 mod cells;
 mod emit;
+mod machine;
 mod parts;
 mod program;
 mod state;
 mod step;
+
+pub use machine::Machine;
