@@ -101,6 +101,6 @@ items-ruled ls all before [] e plain known wide size = tt
 items-ruled ls all before (x ∷ is) e plain known wide size =
     let ps = and_parts (plain_item x) (list_all plain_item is) plain in (
       one-item all before (map item (x ∷ is)) e ls x ps.0 (known-here ls all before (item x) (map item is) known)
-      (not-false (line_fits ls (widths before) (item x)) wide.0) (not-false (has_size before (item x)) size.0),
+          (not-false (line_fits ls (widths before) (item x)) wide.0) (not-false (has_size before (item x)) size.0),
       items-ruled ls all (before ++ item x ∷ []) is (more all before x is e) ps.1 known.1 wide.1 size.1,
     )

@@ -155,6 +155,6 @@ module _ (all : List Line) (s : Name → ℕ) (places : ArePlaces all s) where
             let wrote = write-row ms u n (value_of W v i) (value_of W v e) r.0.0 inside rows in
             let same = same-words (written ms (s n) (value_of W v i) (value_of W v e)) (with_word u n (value_of W v i) (value_of W v e)) (Next u n c i e) (λ a j. taken a j (enabled true on)) wrote in
             let at : written ms (s n) (slice_index nets (free + 1)) (slice_index nets (free + 1 + 1)) ≡ written ms (s n) (value_of W v i) (value_of W v e)
-                = ap (λ z. written ms (s n) z (slice_index nets (free + 1 + 1))) ready.1 ∙ ap (λ z. written ms (s n) (value_of W v i) z) ready.2 in
+            = ap (λ z. written ms (s n) z (slice_index nets (free + 1 + 1))) ready.1 ∙ ap (λ z. written ms (s n) (value_of W v i) z) ready.2 in
             rw on (subst (λ z. Rows all s z (Next u n c i e)) (sym at) same)
         go false off = rw off (same-words ms u (Next u n c i e) (λ a j. left a j (enabled false off)) rows)

@@ -1,8 +1,9 @@
 -- A whole machine: at reset, over an edge, and what its outputs show.
 use Rattle.std.proofs.Common.{◌≡◌, ◌≢◌, ℕ, zero, suc, ◌+◌, ◌<◌, ◌≤◌, ◌^◌, Bool, true, false, List, [], ◌∷◌, ◌++◌, length, map, refl, sym, ◌∙◌, ap, subst, bytes_eq, arith}
-use Rattle.std.specs.Prelude.{Option, Some, None, find, if◌then◌else◌, slice_index, codes}
+use Rattle.std.specs.Prelude.{Option, Some, None, find, if◌then◌else◌, slice_get, slice_index, codes}
 use Rattle.std.specs.List.{AllByRecursion}
 use Rattle.std.proofs.lemmas.Nat.{pow_pos}
+use Rattle.std.proofs.lemmas.Option.{none-some}
 use Rattle.std.proofs.lemmas.Bool.{both_ways, false≢true}
 use Rattle.vl_tree.specs.declared.tree.Port.{Port}
 use Rattle.vl_tree.specs.declared.tree.Join.{Join}
@@ -12,7 +13,7 @@ use Rattle.vl_tree.specs.Values.{Name, Leaf, Design}
 use Rattle.vl_model.specs.Meaning.{Widths, Values}
 use Rattle.vl_model.specs.declared.kind.Kind.{Kind}
 use Rattle.vl_model.specs.declared.kind.Kind.TheVariants.{Input, Output, Inner, Register, Memory, Child}
-use Rattle.vl_model.specs.Lines.{Line, heading, port, joint, leaf_lines, top_lines, leaf_named, lookup, Declared, kind_passes, is_net, is_input, is_driven, widths, net_bits}
+use Rattle.vl_model.specs.Lines.{Line, heading, port, joint, leaf_lines, top_lines, leaf_named, lookup, Declared, way_of, kind_passes, is_net, is_input, is_driven, widths, net_bits}
 use Rattle.vl_model.specs.Rules.{is_kind, IsSound, wants_driver, drivers, join_drives}
 use Rattle.vl_model.specs.Leaf.{leaf_widths, AreSmall, IsRightIn}
 use Rattle.vl_model.specs.Whole.{Nets, Of, IsRight, AreSmallNets}
@@ -98,7 +99,6 @@ module _ (t : Name → ℕ) (ls : List Leaf) where
           ap (λ c. slice_index (linked (part_settled x).kept.nets c Rest) (t n)) (ap (λ (q : Code). q.outs) s.code)
           ∙ outs all y s.place t s.places places (settle (leaf_widths y) (a i) y.items) js e.1.joins (part_settled x).kept.nets (settled-nets t y js e.0 x (a i) s) Rest roomy n k
           ∙ ap (port_value (find (join_drives y n) js) (settle (leaf_widths y) (a i) y.items)) later
-
 
 -- ---- the whole
 
@@ -265,3 +265,23 @@ module _ (d : Design) (sound : IsSound d) where
 
         edged-all : AllStand t d.leaves b d.top.items (map (part_edged T) parts)
         edged-all = all-mapped t d.leaves Known-of a b (part_edged T) one-edge d.top.items known-all parts h.parts
+
+  first-at : (ps : List Port) → First all ps → (i : ℕ) (p : Port) → slice_get ps i ≡ Some p → lookup all p.name ≡ Some (record { name = p.name; kind = way_of p.output; high = p.high; last = 0 })
+  first-at [] f i p e = absurd (none-some p e)
+  first-at (q ∷ ps) f zero p e = let one : q ≡ p = cc in subst (λ (z : Port). lookup all z.name ≡ Some (record { name = z.name; kind = way_of z.output; high = z.high; last = 0 })) one f.0
+  first-at (q ∷ ps) f (suc i) p e = first-at ps f.1 i p e
+
+  place-at : (t : Name → ℕ) (ps : List Port) (i : ℕ) (p : Port) → slice_get ps i ≡ Some p → slice_index (places_of t ps) i ≡ t p.name
+  place-at t [] i p e = absurd (none-some p e)
+  place-at t (q ∷ ps) zero p e = let one : q ≡ p = cc in ap (λ (z : Port). t z.name) one
+  place-at t (q ∷ ps) (suc i) p e = place-at t ps i p e
+
+  -- an output port has the number that follows from the state, whatever the inputs
+  pub output-shows : (parts : List Part) (tops ports : List ℕ) (a : Name → Values) → Stands (record { design = d; parts = parts; tops = tops; ports = ports }) a → (inputs : Name → ℕ) (i : ℕ) (p : Port)
+      → slice_get d.top.ports i ≡ Some p → p.output ≡ true → slice_index tops (slice_index ports i) ≡ (settled d (with_inputs d inputs a)).top p.name
+  unfolding settled
+  output-shows parts tops ports a h inputs i p e out =
+      let at = first-at d.top.ports ports-first.0 i p e in
+      let net : is_kind is_net all p.name ≡ true = ap (kind_passes is_net) at ∙ ap (λ b. is_net (way_of b)) out in
+      let unfed : is_kind is_input all p.name ≡ false = ap (kind_passes is_input) at ∙ ap (λ b. is_input (way_of b)) out in
+      ap (λ q. slice_index tops (slice_index q i)) h.ports ∙ ap (slice_index tops) (place-at h.top d.top.ports i p e) ∙ h.tops p.name net unfed ((with_inputs d inputs a).top p.name)

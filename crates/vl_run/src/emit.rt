@@ -49,7 +49,11 @@ fn wide(e: &Expr, scope: &Scope) -> u64
 fn mask(width: u64) -> u64
     ensures { result ≡ mask_of width }
 {
-    if width < 64 { (1 << width) - 1 } else { u64::MAX }
+    if width < 64 {
+        (1 << width) - 1
+    } else {
+        u64::MAX
+    }
 }
 
 // What bits in front of as many as this are worth.
@@ -165,12 +169,7 @@ fn operand(
 
 #[cycle(emit)]
 #[tactic(auto, using(crate::proofs::Emitting::emitting))]
-fn fetched(
-    e: &Expr,
-    free: usize,
-    scope: &Scope,
-    steps: &mut Vec<Step>,
-) -> Result<usize, AllocError>
+fn fetched(e: &Expr, free: usize, scope: &Scope, steps: &mut Vec<Step>) -> Result<usize, AllocError>
     ensures place { IfOk result (λ p. p ≡ fetched (place_in scope.now.declared.now) free (read e.now)) }
     ensures steps { OnOk result (steps.new.items ≡ steps.old.items ++ fetch (read e.now) (steps_of (place_in scope.now.declared.now) (widths_at scope.now.declared.now scope.now.lines) free (free + 1) (read e.now))) }
 {
@@ -187,12 +186,7 @@ fn fetched(
 // Adds the steps that put the parts, one by one, behind what stands at `all`.
 #[cycle(emit)]
 #[tactic(auto, using(crate::proofs::Emitting::emitting))]
-fn in_a_row(
-    es: &[Expr],
-    all: usize,
-    scope: &Scope,
-    steps: &mut Vec<Step>,
-) -> Result<(), AllocError>
+fn in_a_row(es: &[Expr], all: usize, scope: &Scope, steps: &mut Vec<Step>) -> Result<(), AllocError>
     ensures { OnOk result (steps.new.items ≡ steps.old.items ++ parts_steps (place_in scope.now.declared.now) (widths_at scope.now.declared.now scope.now.lines) all (reads es.now)) }
 {
     let more = next(all)?;

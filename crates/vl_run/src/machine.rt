@@ -123,9 +123,34 @@ impl Machine {
     // Computes what the output ports of the instances and of the top have.
     fn refresh(&mut self)
         ensures { running self.new ≡ record (running self.old) {
-            parts = map part_settled (running self.old).parts; tops = shown_by (map part_settled (running self.old).parts) (running self.old).tops } }
+          parts = map part_settled (running self.old).parts;
+          tops = shown_by (map part_settled (running self.old).parts) (running self.old).tops;
+        } }
     {
         settle_all(self.parts.as_mut_slice());
         show_all(self.parts.as_slice(), &mut self.tops);
+    }
+
+    /// The number that an output port of the top has in this cycle. Ports are numbered in the order of the list, from 0.
+    pub fn outputs(&self, port: u32) -> u64
+        ensures { let d = (running self.now).design in (inside : Name → Values) (inputs : Name → ℕ) (p : Port) → Stands (running self.now) inside
+            → slice_get d.top.ports port ≡ Some p → p.output ≡ true → result ≡ (settled d (with_inputs d inputs inside)).top p.name }
+    {
+        self.tops
+            .read(place_at(self.ports.as_slice(), port as usize))
+    }
+
+    /// One clock edge, where the top's input ports have these numbers, in the order of the list. Nothing is known of the
+    /// machine afterwards unless each is below two to its port's width.
+    pub fn edge(&mut self, inputs: &[u64])
+        ensures design { (running self.new).design ≡ (running self.old).design }
+        ensures steps { let d = (running self.old).design in (inside : Name → Values) → AreInputs d.top.ports inputs.now
+            → Stands (running self.old) inside → Stands (running self.new)
+            (inside_stepped d.leaves d.top.items (settled d (with_inputs d (inputs_of d.top.ports inputs.now) inside)).inside) }
+    {
+        let ports = self.sound.design().top.ports.as_slice();
+        put_inputs(ports, self.ports.as_slice(), inputs, &mut self.tops);
+        edge_all(self.parts.as_mut_slice(), &self.tops);
+        self.refresh();
     }
 }

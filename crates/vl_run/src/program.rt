@@ -54,8 +54,13 @@ impl Model for Program {
     ghost Value = { Code };
 
     ghost view = { λ p. record {
-        settle = p.settle.items; next = p.next.items; stores = p.stores.items;
-        moves = p.moves.items; feeds = p.feeds.items; outs = p.outs.items } };
+      settle = p.settle.items;
+      next = p.next.items;
+      stores = p.stores.items;
+      moves = p.moves.items;
+      feeds = p.feeds.items;
+      outs = p.outs.items;
+    } };
 }
 
 // Adds the steps of an assign.
@@ -64,7 +69,13 @@ fn add_assign(item: &LeafItem, scope: &Scope, steps: &mut Vec<Step>) -> Result<(
 {
     match item {
         LeafItem::Assign { name, value } => {
-            emit(value, place(scope, name.as_slice()), scope.lines, scope, steps)
+            emit(
+                value,
+                place(scope, name.as_slice()),
+                scope.lines,
+                scope,
+                steps,
+            )
         }
         _ => Ok(()),
     }

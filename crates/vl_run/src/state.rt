@@ -125,28 +125,44 @@ impl State {
     pub(crate) fn settle(&mut self, program: &Program)
         ensures { self.new ≡ settled_by program.now self.old }
     {
-        run(program.settle.as_slice(), &mut self.nets, self.memories.as_slice());
+        run(
+            program.settle.as_slice(),
+            &mut self.nets,
+            self.memories.as_slice(),
+        );
     }
 
     // Computes what registers and memories are to take.
     fn ready(&mut self, program: &Program)
         ensures { self.new ≡ readied_by program.now self.old }
     {
-        run(program.next.as_slice(), &mut self.nets, self.memories.as_slice());
+        run(
+            program.next.as_slice(),
+            &mut self.nets,
+            self.memories.as_slice(),
+        );
     }
 
     // Memories take it.
     fn store(&mut self, program: &Program)
         ensures { self.new ≡ stored_by program.now self.old }
     {
-        store(program.stores.as_slice(), &self.nets, self.memories.as_mut_slice());
+        store(
+            program.stores.as_slice(),
+            &self.nets,
+            self.memories.as_mut_slice(),
+        );
     }
 
     // Registers take it.
     fn shift(&mut self, program: &Program)
         ensures { self.new ≡ moved_by program.now self.old }
     {
-        run(program.moves.as_slice(), &mut self.nets, self.memories.as_slice());
+        run(
+            program.moves.as_slice(),
+            &mut self.nets,
+            self.memories.as_slice(),
+        );
     }
 
     /// One clock edge, where the top's nets have these numbers.

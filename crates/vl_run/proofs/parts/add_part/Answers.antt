@@ -16,7 +16,7 @@ returns-in_ok-push-in-Some c = λ is has fresh. (
     let part = c.in_ok-part-in-Some.part in
     let named : Some (read_leaf c.in-Some.known.leaf.now) ≡ leaf_named (take (length c.args.library.now.leaves.now) ls) c.as_slice.result.now = c.in-Some.ensures.leaf in
     let leaf : leaf_named ls c.in-Instance.leaf ≡ Some (read_leaf c.in-Some.known.leaf.now) =
-        ap (λ z. leaf_named z c.in-Instance.leaf) (sym (all-leaves c.args.library.now.leaves.now)) ∙ ap (leaf_named (take (length c.args.library.now.leaves.now) ls)) (sym c.as_slice.ensures) ∙ sym named in
+    ap (λ z. leaf_named z c.in-Instance.leaf) (sym (all-leaves c.args.library.now.leaves.now)) ∙ ap (leaf_named (take (length c.args.library.now.leaves.now) ls)) (sym c.as_slice.ensures) ∙ sym named in
     let here : IsFresh t (read_leaf c.in-Some.known.leaf.now) c.in-Instance.joins part = subst (λ js. IsFresh t (read_leaf c.in-Some.known.leaf.now) js part) c.as_slice-in-Some.ensures c.in_ok-part-in-Some.ensures in
     let at : FreshAt t (leaf_named ls c.in-Instance.leaf) c.in-Instance.joins part = subst (λ o. FreshAt t o c.in-Instance.joins part) (sym leaf) here in
     let all = instance-more t ls is c.args.parts.now.items c.in-Instance.leaf c.in-Instance.name c.in-Instance.joins part at fresh in
