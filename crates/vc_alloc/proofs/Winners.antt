@@ -51,9 +51,9 @@ pub with-of : (x : Allocator) (d o : ℕ) (n : Option Winner) → AreOf x d → 
 with-of x d o n old new k b e =
     let long : length (set x.best o n) ≡ length x.best = length-set x.best o n in
     let is : IsOf x d b = ⊎_elim
-        (λ w. let same : k ≡ o = w.1 in at (ap (λ j. get_or (set x.best o n) j None) (sym same) ∙ e))
-        (λ w. old k b (sym (get_or-set_other x.best o k n None w.1) ∙ e))
-        (eqb_tells k o) in (
+    (λ w. let same : k ≡ o = w.1 in at (ap (λ j. get_or (set x.best o n) j None) (sym same) ∙ e))
+    (λ w. old k b (sym (get_or-set_other x.best o k n None w.1) ∙ e))
+    (eqb_tells k o) in (
       let P : ℕ → Type 0 = λ m. b.place < m * lanes_at x d in subst P (sym long) is.0,
       is.1,
     )

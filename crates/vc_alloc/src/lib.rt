@@ -46,21 +46,21 @@ impl Model for VcAlloc {
     ghost Value = { Allocator };
 
     ghost view = { λ a. record {
-        tile = a.tile;
-        channels = a.channels.items;
-        lanes = a.lanes.items;
-        holders = a.holders;
-        pointers = a.pointers;
-        best = a.best.items;
+      tile = a.tile;
+      channels = a.channels.items;
+      lanes = a.lanes.items;
+      holders = a.holders;
+      pointers = a.pointers;
+      best = a.best.items;
     } };
 
     ghost invariant = { λ a. IsAllocator (record {
-        tile = a.tile;
-        channels = a.channels.items;
-        lanes = a.lanes.items;
-        holders = a.holders;
-        pointers = a.pointers;
-        best = a.best.items;
+      tile = a.tile;
+      channels = a.channels.items;
+      lanes = a.lanes.items;
+      holders = a.holders;
+      pointers = a.pointers;
+      best = a.best.items;
     }) };
 }
 

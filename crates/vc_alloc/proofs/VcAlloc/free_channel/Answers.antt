@@ -13,7 +13,7 @@ returns-then-not-held-clause-value c =
     let from = ap (λ k. c.args.class * k + j) c.class_channels.ensures.value in
     let below : j < at_local c.args.out 1 (channels_at x d) = omega (arith, c.loop-j-test.true, c.class_width-j-end.ensures.value) in
     let free : not (held_at x d c.args.out (c.args.class * channels_at x d + j)) ≡ true =
-        ap (λ w. not (held_at x d c.args.out w)) (sym from) ∙ ap not (sym c.held.ensures) ∙ ap not c.if-not-held.true in
+    ap (λ w. not (held_at x d c.args.out w)) (sym from) ∙ ap not (sym c.held.ensures) ∙ ap not c.if-not-held.true in
     ap Some from ∙ sym (free-found x d c.args.out c.args.class j below c.loop-j.invariant free)
 
 pub overflow_mul-from : goal.overflow_mul-from
