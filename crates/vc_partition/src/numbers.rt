@@ -104,3 +104,21 @@ pub fn input_counts(alloc: Global, plan: &Plan) -> Result<Vec<u32>, AllocError>
     }
     Ok(counts)
 }
+
+/// How many ports each domain has at a tile, which is the same for all: the lengths of lanes with a place for each port.
+///
+/// # Errors
+///
+/// When memory runs out.
+pub fn port_counts(alloc: Global, plan: &Plan) -> Result<Vec<u32>, AllocError>
+    ensures value { IfOk result (λ v. v.items
+        ≡ map (λ d. ports plan.now) (range_with_len 0 (length plan.now.domains))) }
+    ensures few { IfOk result (λ v. total v.items ≤ 112) }
+{
+    plan.known();
+    let mut counts = Vec::with_capacity(alloc, plan.domains() as usize)?;
+    for _ in 0..plan.domains() {
+        counts.push(port_count(plan))?;
+    }
+    Ok(counts)
+}

@@ -2,7 +2,7 @@ pub mod Found
 pub mod Headed
 pub mod Noted
 pub mod Anys
-pub mod Bits
+pub mod Capped
 pub mod Sized
 pub mod Shelved
 pub mod Tallied

@@ -24,7 +24,12 @@ mod walks;
 mod widths;
 
 pub use judging::rules;
+pub use library::{Known, Library, port};
+pub use lines::{Line, Module};
+pub use names::Names;
+pub use scope::{Entry, declarations};
 pub use sound::Sound;
+pub use uses::bits;
 
 #[cfg(test)]
 mod tests;

@@ -42,7 +42,7 @@ pub fn after(op: Op, width: u64) -> u64
 
 /// The width of an expression, up to 64 bits.
 #[cycle(bits)]
-#[tactic(auto, using(crate::proofs::Bits::bits))]
+#[tactic(auto, using(crate::proofs::Capped::bits))]
 pub fn bits(e: &Expr, table: &Names<Entry>, number: usize) -> u64
     ensures { result ≡ min 64 (width_of (widths_at table.now number) (read e.now)) }
 {
@@ -67,7 +67,7 @@ fn boxed_bits(e: &Boxed<Expr>, table: &Names<Entry>, number: usize) -> u64
 }
 
 #[cycle(bits)]
-#[tactic(auto, using(crate::proofs::Bits::bits))]
+#[tactic(auto, using(crate::proofs::Capped::bits))]
 fn bits_in(es: &[Expr], table: &Names<Entry>, number: usize) -> u64
     ensures { result ≡ min 64 (widths_of (widths_at table.now number) (reads es.now)) }
 {

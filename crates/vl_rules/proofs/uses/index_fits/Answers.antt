@@ -2,7 +2,7 @@ use Rattle.vl_tree.specs.Read.{read}
 use Rattle.vl_model.specs.Lines.{word_count}
 use Rattle.vl_model.specs.Meaning.{width_of}
 use Rattle.vl_rules.specs.Scope.{seen, widths_at}
-use Rattle.vl_rules.proofs.Bits.{too-wide}
+use Rattle.vl_rules.proofs.Capped.{too-wide}
 use Rattle.vl_rules.proofs.uses.index_fits.Goals as goal
 
 pub returns-else-width-lt-MOST : goal.returns-else-width-lt-MOST

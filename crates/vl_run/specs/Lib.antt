@@ -1,0 +1,11 @@
+pub mod Step
+pub mod Emit
+pub mod Program
+pub mod State
+pub mod Places
+pub mod Start
+pub mod Top
+pub mod Rows
+pub mod Stands
+pub mod Fresh
+pub mod Running

@@ -1,0 +1,156 @@
+//! A sound design that runs.
+ghost use Rattle.std.specs.Prelude.{◌≡◌, ℕ, true, Some, slice_get, slice_index, map, IfOk};
+ghost use Rattle.vl_tree.specs.declared.tree.Port.{Port};
+ghost use Rattle.vl_tree.specs.Values.{Name, Design};
+ghost use Rattle.vl_tree.specs.Read.{read_design};
+ghost use Rattle.vl_model.specs.Meaning.{Values};
+ghost use Rattle.vl_model.specs.Rules.{IsSound};
+ghost use Rattle.vl_model.specs.Settle.{settled, with_inputs, inside_reset, inside_stepped};
+ghost use Rattle.vl_rules.specs.Answer.{design_of};
+ghost use Rattle.vl_run.specs.Emit.{place_in};
+ghost use Rattle.vl_run.specs.State.{part_settled, shown_by};
+ghost use Rattle.vl_run.specs.Top.{inputs_of, with_ports, places_of};
+ghost use Rattle.vl_run.specs.Fresh.{IsBegun};
+ghost use Rattle.vl_run.specs.Stands.{Stands, AreInputs};
+ghost use Rattle.vl_run.specs.Running.{running};
+
+use crate::cells::Cells;
+use crate::emit::{Scope, place};
+use crate::parts::{Part, edge_all, fresh_parts, settle_all, show_all};
+use std::alloc::{AllocError, Global};
+use vl_rules::{Library, Module, Sound, declarations};
+use vl_tree::{Design, Port};
+
+/// A sound design that runs, one clock edge at a time.
+#[derive(Drop)]
+pub struct Machine {
+    sound: Sound,
+    parts: Vec<Part>,
+    /// The numbers of the top's nets, at the lines that declare them.
+    tops: Cells,
+    /// The lines of the top's ports.
+    ports: Vec<usize>,
+}
+
+// What a machine begins with.
+#[derive(Drop)]
+struct Begun {
+    parts: Vec<Part>,
+    tops: Cells,
+    ports: Vec<usize>,
+}
+
+// Where the ports stand.
+fn port_places(alloc: Global, ports: &[Port], top: &Scope) -> Result<Vec<usize>, AllocError>
+    ensures { IfOk result (λ v. v.items ≡ places_of (place_in top.now.declared.now) ports.now) }
+{
+    let mut places = Vec::new(alloc);
+    for port in ports {
+        places.push(place(top, port.name.as_slice()))?;
+    }
+    Ok(places)
+}
+
+fn begin(alloc: Global, design: &Design) -> Result<Begun, AllocError>
+    requires { IsSound (read_design design.now) }
+    ensures { IfOk result (λ b. IsBegun (read_design design.now) b.parts.items b.tops b.ports.items) }
+{
+    let library = Library::new(alloc, design.leaves.as_slice())?;
+    let declared = declarations(alloc, &Module::Top(&design.top))?;
+    let top = Scope {
+        declared: &declared,
+        lines: Module::Top(&design.top).len(),
+    };
+    let parts = fresh_parts(alloc, design.top.items.as_slice(), &library, &top)?;
+    let tops = Cells::zeros(alloc, top.lines)?;
+    let ports = port_places(alloc, design.top.ports.as_slice(), &top)?;
+    Ok(Begun { parts, tops, ports })
+}
+
+// The number at a place, or 0 behind the last.
+fn number(numbers: &[u64], place: usize) -> u64
+    ensures { result ≡ slice_index numbers.now place }
+{
+    match numbers.get(place) {
+        Some(number) => *number,
+        None => 0,
+    }
+}
+
+fn place_at(places: &[usize], port: usize) -> usize
+    ensures { result ≡ slice_index places.now port }
+{
+    match places.get(port) {
+        Some(place) => *place,
+        None => 0,
+    }
+}
+
+// Gives the top's input ports these numbers, in order.
+fn put_inputs(ports: &[Port], places: &[usize], inputs: &[u64], tops: &mut Cells)
+    ensures { tops.new ≡ with_ports ports.now places.now inputs.now tops.old }
+{
+    let mut taken = 0;
+    for (i, port) in ports.iter().enumerate() {
+        if !port.output {
+            tops.write(place_at(places, i), number(inputs, taken));
+            taken += 1;
+        }
+    }
+}
+
+impl Machine {
+    /// The design at reset, with memories of 0.
+    ///
+    /// # Errors
+    ///
+    /// Memory ran out; then the design is dropped.
+    pub fn new(alloc: Global, sound: Sound) -> Result<Machine, AllocError>
+        ensures design { IfOk result (λ m. (running m).design ≡ read_design (design_of sound)) }
+        ensures reset { IfOk result (λ m. Stands (running m) (inside_reset (running m).design.leaves (running m).design.top.items (λ i n k. 0))) }
+    {
+        let begun = begin(alloc, sound.design())?;
+        let mut machine = Machine {
+            sound,
+            parts: begun.parts,
+            tops: begun.tops,
+            ports: begun.ports,
+        };
+        machine.refresh();
+        Ok(machine)
+    }
+
+    // Computes what the output ports of the instances and of the top have.
+    fn refresh(&mut self)
+        ensures { running self.new ≡ record (running self.old) {
+          parts = map part_settled (running self.old).parts;
+          tops = shown_by (map part_settled (running self.old).parts) (running self.old).tops;
+        } }
+    {
+        settle_all(self.parts.as_mut_slice());
+        show_all(self.parts.as_slice(), &mut self.tops);
+    }
+
+    /// The number that an output port of the top has in this cycle. Ports are numbered in the order of the list, from 0.
+    pub fn outputs(&self, port: u32) -> u64
+        ensures { let d = (running self.now).design in (inside : Name → Values) (inputs : Name → ℕ) (p : Port) → Stands (running self.now) inside
+            → slice_get d.top.ports port ≡ Some p → p.output ≡ true → result ≡ (settled d (with_inputs d inputs inside)).top p.name }
+    {
+        self.tops
+            .read(place_at(self.ports.as_slice(), port as usize))
+    }
+
+    /// One clock edge, where the top's input ports have these numbers, in the order of the list. Nothing is known of the
+    /// machine afterwards unless each is below two to its port's width.
+    pub fn edge(&mut self, inputs: &[u64])
+        ensures design { (running self.new).design ≡ (running self.old).design }
+        ensures steps { let d = (running self.old).design in (inside : Name → Values) → AreInputs d.top.ports inputs.now
+            → Stands (running self.old) inside → Stands (running self.new)
+            (inside_stepped d.leaves d.top.items (settled d (with_inputs d (inputs_of d.top.ports inputs.now) inside)).inside) }
+    {
+        let ports = self.sound.design().top.ports.as_slice();
+        put_inputs(ports, self.ports.as_slice(), inputs, &mut self.tops);
+        edge_all(self.parts.as_mut_slice(), &self.tops);
+        self.refresh();
+    }
+}

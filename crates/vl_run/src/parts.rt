@@ -1,0 +1,143 @@
+//! All instances, and the top's nets between them.
+ghost use Rattle.std.specs.Prelude.{◌≡◌, List, [], ◌∷◌, ◌++◌, map, IfOk, OnOk};
+ghost use Rattle.std.specs.List.{AllByRecursion};
+ghost use Rattle.vl_tree.specs.declared.tree.TopItem.{TopItem};
+ghost use Rattle.vl_tree.specs.Read.{read_leaf, read_leaves};
+ghost use Rattle.vl_model.specs.Lines.{leaf_lines};
+ghost use Rattle.vl_rules.specs.Scope.{Declares};
+ghost use Rattle.vl_rules.specs.Library.{IsLibrary};
+ghost use Rattle.vl_run.specs.Emit.{place_in};
+ghost use Rattle.vl_run.specs.Program.{linked};
+ghost use Rattle.vl_run.specs.State.{part_settled, part_edged, shown_by};
+ghost use Rattle.vl_run.specs.Fresh.{IsFresh, AllFresh, HasLeaf};
+
+use crate::cells::Cells;
+use crate::emit::Scope;
+use crate::program::Program;
+use crate::state::{State, copy};
+use std::alloc::{AllocError, Global};
+use std::marker::Model;
+use vl_rules::{Known, Library};
+use vl_tree::{Join, TopItem};
+
+/// An instance: its code and its state.
+#[derive(Drop)]
+pub(crate) struct Part {
+    pub(crate) program: Program,
+    pub(crate) state: State,
+}
+
+impl Model for Part {
+    ghost use Rattle.vl_run.specs.State.{Part};
+
+    ghost Value = { Part };
+
+    ghost view = { λ p. record { code = p.program; kept = p.state } };
+}
+
+impl Part {
+    fn settle(&mut self)
+        ensures { self.new ≡ part_settled self.old }
+    {
+        self.state.settle(&self.program);
+    }
+
+    fn edge(&mut self, tops: &Cells)
+        ensures { self.new ≡ part_edged tops.now self.old }
+    {
+        self.state.edge(&self.program, tops);
+    }
+
+    fn show(&self, tops: &mut Cells)
+        ensures { tops.new ≡ linked self.now.kept.nets self.now.code.outs tops.old }
+    {
+        copy(self.program.outs.as_slice(), &self.state.nets, tops);
+    }
+}
+
+/// Gives the nets of each instance their values, in order, whatever its input ports have.
+pub(crate) fn settle_all(parts: &mut [Part])
+    ensures { parts.new ≡ map part_settled parts.old }
+{
+    for part in parts.iter_mut() {
+        part.settle();
+    }
+}
+
+/// One clock edge of each instance, where the top's nets have these numbers.
+pub(crate) fn edge_all(parts: &mut [Part], tops: &Cells)
+    ensures { parts.new ≡ map (part_edged tops.now) parts.old }
+{
+    for part in parts.iter_mut() {
+        part.edge(tops);
+    }
+}
+
+/// Gives the top's nets the numbers of the output ports that are joined to them.
+pub(crate) fn show_all(parts: &[Part], tops: &mut Cells)
+    ensures { tops.new ≡ shown_by parts.now tops.old }
+{
+    let mut i = parts.len();
+    while 0 < i {
+        i -= 1;
+        parts[i].show(tops);
+    }
+}
+
+impl Part {
+    // An instance of the leaf with these joins, at reset.
+    fn new(alloc: Global, leaf: &Known, joins: &[Join], top: &Scope) -> Result<Part, AllocError>
+        requires { Declares leaf.now.declared.now (leaf_lines (read_leaf leaf.now.leaf.now)) }
+        ensures { IfOk result (λ x. IsFresh (place_in top.now.declared.now) (read_leaf leaf.now.leaf.now) joins.now x) }
+    {
+        let program = Program::new(alloc, leaf, joins, top)?;
+        let state = State::new(alloc, leaf, &program)?;
+        Ok(Part { program, state })
+    }
+}
+
+// Adds the instance, if the item is one.
+fn add_part(
+    alloc: Global,
+    item: &TopItem,
+    library: &Library,
+    top: &Scope,
+    parts: &mut Vec<Part>,
+) -> Result<(), AllocError>
+    requires { IsLibrary library.now }
+    ensures { OnOk result ((is : List TopItem) → HasLeaf (read_leaves library.now.leaves.now) item.now
+        → AllFresh (place_in top.now.declared.now) (read_leaves library.now.leaves.now) is parts.old.items
+        → AllFresh (place_in top.now.declared.now) (read_leaves library.now.leaves.now) (is ++ item.now ∷ []) parts.new.items) }
+{
+    match item {
+        TopItem::Instance { leaf, joins, .. } => {
+            match library.leaf(library.leaves.len(), leaf.as_slice()) {
+                Some(known) => {
+                    let part = Part::new(alloc, &known, joins.as_slice(), top)?;
+                    parts.push(part)?;
+                    Ok(())
+                }
+                None => Ok(()),
+            }
+        }
+        TopItem::Wire { .. } => Ok(()),
+    }
+}
+
+/// The instances, at reset.
+pub(crate) fn fresh_parts(
+    alloc: Global,
+    items: &[TopItem],
+    library: &Library,
+    top: &Scope,
+) -> Result<Vec<Part>, AllocError>
+    requires library { IsLibrary library.now }
+    requires leaves { AllByRecursion (HasLeaf (read_leaves library.now.leaves.now)) items.now }
+    ensures { IfOk result (λ v. AllFresh (place_in top.now.declared.now) (read_leaves library.now.leaves.now) items.now v.items) }
+{
+    let mut parts = Vec::new(alloc);
+    for item in items {
+        add_part(alloc, item, library, top, &mut parts)?;
+    }
+    Ok(parts)
+}

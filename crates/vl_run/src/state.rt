@@ -1,0 +1,179 @@
+//! The numbers of an instance, and an edge of it.
+ghost use Rattle.std.specs.Prelude.{◌≡◌, ◌≤◌, ◌∷◌, [], map, IfOk};
+ghost use Rattle.std.specs.List.{AllByRecursion};
+ghost use Rattle.vl_tree.specs.Read.{read_leaf};
+ghost use Rattle.vl_rules.specs.Lines.{lines_of, line_of};
+ghost use Rattle.vl_run.specs.Emit.{place_in};
+ghost use Rattle.vl_run.specs.Start.{IsWithin, words_of, empty_memory, IsStart};
+ghost use Rattle.vl_run.specs.Program.{stored_in, linked};
+ghost use Rattle.vl_run.specs.State.{settled_by, fed_by, readied_by, stored_by, moved_by, edged};
+
+use crate::cells::Cells;
+use crate::emit::next;
+use crate::program::{Link, Program, Store, resets, scope_of};
+use crate::step::{Step, run};
+use std::alloc::{AllocError, Global};
+use std::marker::Model;
+use vl_rules::{Known, Line, Module};
+use vl_tree::LeafItem;
+
+/// The numbers of an instance's nets, at the lines that declare them, and of its memories' words.
+#[derive(Drop)]
+pub(crate) struct State {
+    pub(crate) nets: Cells,
+    pub(crate) memories: Vec<Cells>,
+}
+
+impl Model for State {
+    ghost use Rattle.vl_run.specs.State.{Kept};
+
+    ghost Value = { Kept };
+
+    ghost view = { λ s. record { nets = s.nets; memories = s.memories.items } };
+}
+
+/// Copies numbers from one row to another. Where links have one end, the first of them counts.
+pub(crate) fn copy(links: &[Link], from: &Cells, to: &mut Cells)
+    ensures { to.new ≡ linked from.now links.now to.old }
+{
+    let mut i = links.len();
+    while 0 < i {
+        i -= 1;
+        let link = links[i];
+        to.write(link.to, from.read(link.from));
+    }
+}
+
+fn store_one(store: Store, nets: &Cells, memories: &mut [Cells])
+    ensures { memories.new ≡ stored_in nets.now (store ∷ []) memories.old }
+{
+    if nets.read(store.enable) == 1 && store.memory < memories.len() {
+        let index = nets.read(store.index) as usize;
+        memories[store.memory].write(index, nets.read(store.value));
+    }
+}
+
+fn store(stores: &[Store], nets: &Cells, memories: &mut [Cells])
+    ensures { memories.new ≡ stored_in nets.now stores.now memories.old }
+{
+    for store in stores {
+        store_one(*store, nets, memories);
+    }
+}
+
+// A length in which all the steps write, and at least this one.
+#[tactic(auto, using(crate::proofs::Room::rooms))]
+fn room(steps: &[Step], least: usize) -> Result<usize, AllocError>
+    ensures least { IfOk result (λ n. least ≤ n) }
+    ensures steps { IfOk result (λ n. AllByRecursion (IsWithin n) steps.now) }
+{
+    let mut most = least;
+    for step in steps {
+        if most <= step.to {
+            most = next(step.to)?;
+        }
+    }
+    Ok(most)
+}
+
+// How many words the line declares.
+fn words(line: &Line) -> usize
+    ensures { result ≡ words_of (line_of line.now) }
+{
+    match line {
+        Line::Item(LeafItem::Mem { last, .. }) => *last as usize + 1,
+        _ => 0,
+    }
+}
+
+// A row of zeros for each line.
+fn memories(alloc: Global, subject: &Module) -> Result<Vec<Cells>, AllocError>
+    ensures { IfOk result (λ v. v.items ≡ map empty_memory (lines_of subject.now)) }
+{
+    let mut rows = Vec::new(alloc);
+    for number in 0..subject.len() {
+        rows.push(Cells::zeros(alloc, words(&subject.line(number)))?)?;
+    }
+    Ok(rows)
+}
+
+impl State {
+    /// The state at reset, with memories of 0.
+    pub(crate) fn new(alloc: Global, leaf: &Known, program: &Program) -> Result<State, AllocError>
+        ensures { IfOk result (λ k. IsStart (place_in leaf.now.declared.now) (read_leaf leaf.now.leaf.now) program.now k) }
+    {
+        let scope = scope_of(leaf);
+        let settle = room(program.settle.as_slice(), scope.lines)?;
+        let both = room(program.next.as_slice(), settle)?;
+        let all = room(program.moves.as_slice(), both)?;
+        let resets = resets(alloc, leaf.leaf.items.as_slice(), &scope)?;
+        let size = room(resets.as_slice(), all)?;
+        let memories = memories(alloc, &Module::Leaf(leaf.leaf))?;
+        let mut nets = Cells::zeros(alloc, size)?;
+        run(resets.as_slice(), &mut nets, memories.as_slice());
+        Ok(State { nets, memories })
+    }
+
+    // Input ports take the top's numbers.
+    fn feed(&mut self, program: &Program, tops: &Cells)
+        ensures { self.new ≡ fed_by program.now tops.now self.old }
+    {
+        copy(program.feeds.as_slice(), tops, &mut self.nets);
+    }
+
+    /// Gives each assigned net its value, in order.
+    pub(crate) fn settle(&mut self, program: &Program)
+        ensures { self.new ≡ settled_by program.now self.old }
+    {
+        run(
+            program.settle.as_slice(),
+            &mut self.nets,
+            self.memories.as_slice(),
+        );
+    }
+
+    // Computes what registers and memories are to take.
+    fn ready(&mut self, program: &Program)
+        ensures { self.new ≡ readied_by program.now self.old }
+    {
+        run(
+            program.next.as_slice(),
+            &mut self.nets,
+            self.memories.as_slice(),
+        );
+    }
+
+    // Memories take it.
+    fn store(&mut self, program: &Program)
+        ensures { self.new ≡ stored_by program.now self.old }
+    {
+        store(
+            program.stores.as_slice(),
+            &self.nets,
+            self.memories.as_mut_slice(),
+        );
+    }
+
+    // Registers take it.
+    fn shift(&mut self, program: &Program)
+        ensures { self.new ≡ moved_by program.now self.old }
+    {
+        run(
+            program.moves.as_slice(),
+            &mut self.nets,
+            self.memories.as_slice(),
+        );
+    }
+
+    /// One clock edge, where the top's nets have these numbers.
+    #[tactic(auto, unfolding(crate::specs::State::edged))]
+    pub(crate) fn edge(&mut self, program: &Program, tops: &Cells)
+        ensures { self.new ≡ edged program.now tops.now self.old }
+    {
+        self.feed(program, tops);
+        self.settle(program);
+        self.ready(program);
+        self.store(program);
+        self.shift(program);
+    }
+}
