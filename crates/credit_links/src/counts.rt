@@ -73,7 +73,7 @@ impl Credits {
         self.lanes.set(d, place, count - 1);
     }
 
-    /// Adds a credit: a place at the other end is free again.
+    /// Adds a credit: a buffer slot at the other end is free again.
     pub fn restore(&mut self, d: u32, place: u32)
         requires domain { d < length self.old.lanes }
         requires place { place < length (lane self.old.lanes d) }

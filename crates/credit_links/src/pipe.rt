@@ -1,4 +1,4 @@
-//! The row of places of a link.
+//! The row of registers of a link.
 
 ghost use Rattle.std.specs.Prelude.{◌≡◌, ◌≤◌, ◌-◌, ◌∷◌, length, take, replicate, None, IfOk};
 ghost use Rattle.credit_links.specs.Rows.{last_place};
@@ -8,7 +8,7 @@ use flit_word::LinkFlit;
 use std::alloc::{AllocError, Global};
 use std::marker::Model;
 
-/// The places of a link, 1 to 4, the one that a flit enters first.
+/// The registers of a link, 1 to 4, the one that a flit enters first.
 #[derive(Drop)]
 pub struct Pipe {
     places: HeapCircularBuffer<Option<LinkFlit>>,
@@ -26,7 +26,7 @@ impl Model for Pipe {
 }
 
 impl Pipe {
-    /// A link with so many places, all of them empty. All memory is taken here.
+    /// A link with so many registers, all of them empty. All memory is taken here.
     ///
     /// # Errors
     ///
@@ -43,7 +43,7 @@ impl Pipe {
         Ok(Pipe { places })
     }
 
-    /// The flit in the last place, which leaves it at the next shift: none exactly where the place is empty.
+    /// The flit in the last register, which leaves it at the next shift: none exactly where the register is empty.
     pub fn last(&self) -> Option<LinkFlit>
         ensures { result ≡ last_place self.now }
     {
@@ -53,7 +53,7 @@ impl Pipe {
         }
     }
 
-    /// Moves each flit on by one place, and puts `next` into the first. It gives the flit that left the last place.
+    /// Moves each flit on by one register, and puts `next` into the first. It gives the flit that left the last one.
     pub fn shift(&mut self, next: Option<LinkFlit>) -> Option<LinkFlit>
         ensures value { result ≡ last_place self.old }
         ensures row { self.new ≡ next ∷ take (length self.old - 1) self.old }

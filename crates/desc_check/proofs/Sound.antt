@@ -26,7 +26,7 @@ use Rattle.noc_desc.specs.declared.DraftRange.{DraftRange}
 use Rattle.noc_desc.specs.declared.DescFault.TheVariants.{Version, Dims, Stages, Buffer, DomainCount, PlacesMany, AttachMany, SlotCount}
 use Rattle.desc_check.specs.Words.{number_of, is_between, is_within, is_below, is_name_byte, is_name, is_domain}
 use Rattle.desc_check.specs.Network.{tile_count, domain_of, range_of, name_at, is_hosted, pair_at, hosts_of, domain_number, slots_of, plan_of_draft}
-use Rattle.desc_check.specs.Faults.{version_fault, shape_fault, most_sides, has_sides, dims_fault, stages_fault, buffer_fault, domain_count_fault, domain_name_fault, domain_twice_fault, channels_fault, range_tile_fault, is_in_order, range_order_fault, overlaps_later, range_overlap_fault, places_fault, attach_fault, slot_count_fault, slot_unknown_fault, slot_missing_fault}
+use Rattle.desc_check.specs.Faults.{version_fault, shape_fault, sides_allowed, has_sides, dims_fault, stages_fault, buffer_fault, domain_count_fault, domain_name_fault, domain_twice_fault, channels_fault, range_tile_fault, is_in_order, range_order_fault, overlaps_later, range_overlap_fault, places_fault, attach_fault, slot_count_fault, slot_unknown_fault, slot_missing_fault}
 use Rattle.desc_check.specs.Accepted.{form_fault, domains_fault, tiles_fault, ranges_fault, lists_fault, IsSized, sizes_fault, slots_fault, first_fault}
 use Rattle.desc_check.proofs.Lists.{neither, holds_not, holds}
 use Rattle.desc_check.proofs.Judged.{both, denied, second, good_name, good_channels, names_apart, good_tile, in_order, ranges_apart, slot_known, has_slot}
@@ -113,9 +113,9 @@ pub record Sided (version : ℤ) (dims : List ℤ) : Type 0 where
 
 pub sided : (version : ℤ) (dims : List ℤ) → has_sides version dims ≡ true → Sided version dims
 sided version dims h =
-    let a = both (is_between 1 (most_sides version) (length dims) && list_all (is_within 1 16) dims) (nat_le (tile_count dims) 256) h in
-    let b = both (is_between 1 (most_sides version) (length dims)) (list_all (is_within 1 16) dims) a.0 in
-    let count = between 1 (most_sides version) (length dims) b.0 in
+    let a = both (is_between 1 (sides_allowed version) (length dims) && list_all (is_within 1 16) dims) (nat_le (tile_count dims) 256) h in
+    let b = both (is_between 1 (sides_allowed version) (length dims)) (list_all (is_within 1 16) dims) a.0 in
+    let count = between 1 (sides_allowed version) (length dims) b.0 in
     let most = few_sides (int_eq version (pos 1)) in
     record { count = (count.0, omega arith); each = b.1; few = at_most (tile_count dims) 256 a.1 }
 

@@ -1,6 +1,6 @@
 -- A draft's first fault: a condition is looked at only where no smaller number holds.
 use Rattle.std.specs.Prelude.{◌≤◌, [], ◌∷◌, length, Option}
-use Rattle.noc_model.specs.Limits.{most_tiles, most_buffer, most_domains}
+use Rattle.noc_model.specs.Limits.{most_sides, most_tiles, most_buffer, most_domains}
 use Rattle.noc_model.specs.Plan.{Plan, tiles, places}
 use Rattle.noc_model.specs.Sound.{AreSides, HaveChannels}
 use Rattle.noc_desc.specs.declared.Draft.{Draft}
@@ -28,7 +28,7 @@ ranges_fault d = first_of (range_tile_fault (tile_count d.dims) d.ranges ∷ ran
 
 -- what the places of a plan are counted from is in range
 pub record IsSized (p : Plan) : Type 0 where
-  pub dims : length p.dims ≤ 3
+  pub dims : length p.dims ≤ most_sides
   pub sides : AreSides p.dims
   pub tile_count : tiles p ≤ most_tiles
   pub buffer : p.buffer ≤ most_buffer

@@ -2,15 +2,15 @@
 
 ghost use Rattle.std.specs.Prelude.{◌≡◌, ◌≤◌, length, true};
 ghost use Rattle.std.specs.List.{list_all};
-ghost use Rattle.noc_model.specs.Limits.{most_side};
+ghost use Rattle.noc_model.specs.Limits.{most_sides, most_side};
 ghost use Rattle.desc_check.specs.Words.{is_within, number_of};
 ghost use Rattle.desc_check.specs.Network.{tile_count};
-ghost use Rattle.desc_check.specs.Faults.{version_fault, shape_fault, most_sides, has_sides, dims_fault, stages_fault, buffer_fault};
+ghost use Rattle.desc_check.specs.Faults.{version_fault, shape_fault, sides_allowed, has_sides, dims_fault, stages_fault, buffer_fault};
 ghost use Rattle.desc_check.specs.Accepted.{form_fault};
 
 use crate::words::{fault_if, is_between, is_within};
 use noc_desc::{DescFault, Draft};
-use noc_model::limits::{MOST_BUFFER, MOST_SIDE, MOST_STAGES, MOST_TILES};
+use noc_model::limits::{MOST_BUFFER, MOST_SIDE, MOST_SIDES, MOST_STAGES, MOST_TILES};
 
 /// A side that was judged.
 pub(crate) fn number_of(value: i64) -> u32
@@ -30,7 +30,7 @@ fn are_sides(dims: &[i64]) -> bool
 
 /// The number of tiles.
 pub(crate) fn tile_count(dims: &[i64]) -> u32
-    requires few { length dims.now ≤ 3 }
+    requires few { length dims.now ≤ most_sides }
     requires sides { list_all (is_within 1 most_side) dims.now ≡ true }
     ensures value { result ≡ tile_count dims.now }
 {
@@ -43,17 +43,17 @@ pub(crate) fn tile_count(dims: &[i64]) -> u32
 }
 
 /// The sides that a version may have.
-fn most_sides(version: i64) -> usize
-    ensures { result ≡ most_sides version }
+fn sides_allowed(version: i64) -> usize
+    ensures { result ≡ sides_allowed version }
 {
-    if version == 1 { 2 } else { 3 }
+    if version == 1 { 2 } else { MOST_SIDES }
 }
 
 /// Whether the sides are right.
 fn has_sides(version: i64, dims: &[i64]) -> bool
     ensures { result ≡ has_sides version dims.now }
 {
-    if !(is_between(1, most_sides(version), dims.len()) && are_sides(dims)) {
+    if !(is_between(1, sides_allowed(version), dims.len()) && are_sides(dims)) {
         return false;
     }
     tile_count(dims) <= MOST_TILES

@@ -31,6 +31,7 @@ use noc_model::limits::{MOST_HOSTS, MOST_PLACES};
 use noc_model::{Host, Parts, Plan};
 use std::alloc::Global;
 pub use upgrade::draft_of;
+pub use words::is_name;
 
 /// The first fault of a draft's values and lists: all but those of the plan's sizes and of the slots.
 fn lists_fault(draft: &Draft) -> Option<DescFault>

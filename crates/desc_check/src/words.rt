@@ -50,8 +50,8 @@ fn are_name_bytes(bytes: &[u8]) -> bool
     bytes.iter().all(|b| is_name_byte(*b))
 }
 
-/// Whether the bytes are a name.
-pub(crate) fn is_name(bytes: &[u8]) -> bool
+/// Whether the bytes are a name of a domain: 1 to 16 of ASCII letters, digits, `_` and `-`.
+pub fn is_name(bytes: &[u8]) -> bool
     ensures { result ≡ is_name bytes.now }
 {
     is_between(1, MOST_NAME, bytes.len()) && are_name_bytes(bytes)

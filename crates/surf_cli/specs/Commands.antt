@@ -4,6 +4,7 @@ use Rattle.std.specs.Str.{bytes_eq}
 use Rattle.surf_base.specs.Numbers.{decimal_in}
 use Rattle.surf_cli.specs.declared.files.FileKind.TheVariants.{Description, Trace}
 use Rattle.noc_model.specs.Limits.{most_cycles}
+use Rattle.desc_check.specs.Words.{is_name}
 use Rattle.surf_cli.specs.Limits.{table_cycles}
 use Rattle.surf_cli.specs.Files.{NamedFile, file_of}
 use Rattle.surf_cli.specs.Jobs.{Schedule, Check, Routes, Simulate, Report, Upgrade, Command, command}
@@ -31,11 +32,13 @@ simulate_words (description ∷ trace ∷ cycles ∷ []) =
     (decimal_in most_cycles cycles)
 simulate_words _ = None
 
--- report DESC TRACE CYCLES DOMAIN
+-- report DESC TRACE CYCLES DOMAIN, whose last word is a name of a domain
 abbrev pub report_words : List (List ℕ) → Option Command
 report_words (description ∷ trace ∷ cycles ∷ domain ∷ []) =
-    option_map (λ n. command (file_of Description description ∷ file_of Trace trace ∷ []) (Report n domain))
+    if is_name domain
+    then option_map (λ n. command (file_of Description description ∷ file_of Trace trace ∷ []) (Report n domain))
     (decimal_in most_cycles cycles)
+    else None
 report_words _ = None
 
 -- upgrade DESC

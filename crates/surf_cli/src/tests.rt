@@ -497,6 +497,20 @@ fn refused_simulations_say_why(rt: HostRuntime) -> Result<(), Fail> {
             "surf: description fault 3 0 0 0\n",
         ),
         (
+            "report d t 6 a.b",
+            ONE_TILE,
+            ONE_WORD,
+            Status::Usage,
+            "surf: usage\n",
+        ),
+        (
+            "report d t 6 a2345678901234567",
+            ONE_TILE,
+            ONE_WORD,
+            Status::Usage,
+            "surf: usage\n",
+        ),
+        (
             "report d t 6",
             ONE_TILE,
             ONE_WORD,

@@ -1,6 +1,6 @@
 //! The virtual-channel allocator of a router: packets that have a route get a channel of their output.
 //!
-//! [`VcAlloc`] knows for each output channel of a tile which input holds it (Dally and Towles, section 16.2). An input
+//! [`VcAlloc`] knows for each output channel of a tile which input holds it (Dally and Towles, section 16.1). An input
 //! that waits for an output is made known by `want`; for each output a round-robin arbiter picks one of those that
 //! could have a free channel of their class, and `commit` gives it the least such channel. Inputs may come in any
 //! order: the best so far is all that is kept. Which inputs wait, and when a channel is free again, is left to the

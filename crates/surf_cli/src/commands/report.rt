@@ -15,6 +15,7 @@ use crate::files::{FileKind, NamedFile, NamedFiles};
 use crate::judging::{judge, judge_domain, judge_trace, needs_built};
 use crate::reports::OneReport;
 use crate::statuses::End;
+use desc_check::is_name;
 use noc_model::limits::MOST_CYCLES;
 use std::alloc::Global;
 use surf_base::read_decimal;
@@ -26,6 +27,9 @@ pub(super) fn words(args: &[String]) -> Option<Command<'_>>
 {
     match args {
         [description, trace, cycles, domain] => {
+            if !is_name(domain.as_bytes()) {
+                return None;
+            }
             let cycles = read_decimal(cycles.as_bytes(), MOST_CYCLES as u64)? as u32;
             let description = NamedFile::new(FileKind::Description, description.as_str());
             let trace = NamedFile::new(FileKind::Trace, trace.as_str());
