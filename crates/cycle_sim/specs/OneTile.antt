@@ -77,8 +77,15 @@ next_one p d offer hears x =
 
 -- the start
 abbrev pub start_one : One
-start_one = record { queue = []; claim = Waiting; won = false; granted = false; packet = Between; dropped = false;
-    ejected = None }
+start_one = record {
+  queue = [];
+  claim = Waiting;
+  won = false;
+  granted = false;
+  packet = Between;
+  dropped = false;
+  ejected = None;
+}
 
 -- the state of a tile that is alone is this one, at each place that there is
 pub record Stands (x : One) (s : Tile) : Type 0 where
@@ -107,7 +114,7 @@ driven_one p v states t d x = next_one p d (offer_at v states t (attach_of p 0 d
 abbrev pub driver_after : Plan → Driver → ℕ → ℕ → One → List ℕ → List ℕ
 driver_after p v t j x state =
     after_got v j (after_taken v j state t (is_ready_packet x.packet (length x.queue) p.buffer
-        && is_some (v.offer j state t))) t (v.hears j state t) (ejected_of x.ejected)
+    && is_some (v.offer j state t))) t (v.hears j state t) (ejected_of x.ejected)
 
 -- what is seen at attachment j in a cycle
 abbrev pub seen_one : Plan → Driver → ℕ → ℕ → One → List ℕ → SeenAt

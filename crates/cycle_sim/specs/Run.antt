@@ -20,7 +20,7 @@ IsLater t h f = By t f.cycle (By h.tile f.tile (h.domain < f.domain))
 abbrev pub seen_events : ℕ → Host → SeenAt → List Event
 seen_events t h x =
     offer_events t h.tile h.domain x.ready x.offered ++ drop_events t h.tile h.domain x.dropped
-        ++ got_events t h.tile h.domain true x.got
+    ++ got_events t h.tile h.domain true x.got
 
 -- the events of these attachments, whose numbers are from j on
 abbrev pub events_seen : ℕ → List SeenAt → ℕ → List Host → List Event

@@ -136,7 +136,7 @@ pub fn run<D: Drive>(
     ensures driver { D.driver drive.new ≡ D.driver drive.old }
     ensures attached { (j : ℕ) (h : Host) → slice_get net.old.plan.hosts j ≡ Some h → D.state drive.new j
         ≡ driver_states net.old.plan h.domain (D.driver drive.old) net.new.cycle 0 (start net.old.plan)
-            (D.state drive.old) j }
+        (D.state drive.old) j }
 {
     net.known();
     net.plan().known();

@@ -62,9 +62,9 @@ pub(crate) fn step_domains<D: Drive>(
     ensures seen_len { length seen.new ≡ length seen.old }
     ensures attached { (j : ℕ) (h : Host) → slice_get plan.now.hosts j ≡ Some h
         → (D.state drive.new j
-            ≡ driver_after plan.now (D.driver drive.old) cycle j (one_at ones.old h.domain) (D.state drive.old j))
+        ≡ driver_after plan.now (D.driver drive.old) cycle j (one_at ones.old h.domain) (D.state drive.old j))
         × (seen_at seen.new j
-            ≡ seen_one plan.now (D.driver drive.old) cycle j (one_at ones.old h.domain) (D.state drive.old j)) }
+        ≡ seen_one plan.now (D.driver drive.old) cycle j (one_at ones.old h.domain) (D.state drive.old j)) }
 {
     plan.known();
     for d in 0..plan.domains() {

@@ -105,12 +105,12 @@ impl Net {
         ensures states { (j : ℕ) (h : Host) (s : State) → slice_get self.old.plan.hosts j ≡ Some h
             → Shows self.old h.domain s
             → D.state drive.new j ≡ next_state self.old.plan h.domain (D.driver drive.old) self.old.cycle s j
-                (D.state drive.old j) (Some h) }
+            (D.state drive.old j) (Some h) }
         ensures seen_len { length seen.new ≡ length seen.old }
         ensures seen { (j : ℕ) (h : Host) (s : State) → slice_get self.old.plan.hosts j ≡ Some h
             → Shows self.old h.domain s
             → seen_at seen.new j ≡ seen_of self.old.plan (D.driver drive.old) self.old.cycle j (s h.tile)
-                (D.state drive.old j) }
+            (D.state drive.old j) }
     {
         self.plan.known();
         step_domains(

@@ -4,4 +4,9 @@ pub mod Sound
 mod Least
 mod Rows
 pub mod Upgraded
+mod Members
+mod Drafted
+mod Faultless
+mod SamePlan
+pub mod Harmless
 pub mod UpgradedTexts

@@ -164,7 +164,7 @@ host_before count i j some less =
       | inr not_before ↦ (let same : i / count ≡ j / count = omega arith in inr (same, (let rows : count * (i / count) ≡ count * (j / count) = ap (λ (q : ℕ). count * q) same in omega arith)))
     ]
 
-hosts_within : (n : ℕ) (d : Draft) → 1 ≤ length d.domains → All (λ (h : Host). (h.tile < n) × (h.domain < length d.domains)) (hosts_of n d.domains d.tiles)
+pub hosts_within : (n : ℕ) (d : Draft) → 1 ≤ length d.domains → All (λ (h : Host). (h.tile < n) × (h.domain < length d.domains)) (hosts_of n d.domains d.tiles)
 hosts_within n d some =
     All-filter (λ (h : Host). is_hosted d.tiles h.tile (name_at d.domains h.domain)) (λ (h : Host). (h.tile < n) × (h.domain < length d.domains)) (map (pair_at (length d.domains)) (range_with_len 0 (n * length d.domains)))
     (All-map (λ (h : Host). (h.tile < n) × (h.domain < length d.domains)) (pair_at (length d.domains)) (range_with_len 0 (n * length d.domains)) (λ k z less.
@@ -172,7 +172,7 @@ hosts_within n d some =
     let at : get_or (range_with_len 0 (n * length d.domains)) k z ≡ 0 + k = get_or-range_with_len 0 (n * length d.domains) k z (omega arith) in
     host_within n (length d.domains) (get_or (range_with_len 0 (n * length d.domains)) k z) some (omega arith)))
 
-hosts_in_order : (n : ℕ) (d : Draft) → 1 ≤ length d.domains → AllPairs IsBefore (hosts_of n d.domains d.tiles)
+pub hosts_in_order : (n : ℕ) (d : Draft) → 1 ≤ length d.domains → AllPairs IsBefore (hosts_of n d.domains d.tiles)
 hosts_in_order n d some =
     AllPairs-filter IsBefore (λ (h : Host). is_hosted d.tiles h.tile (name_at d.domains h.domain)) (map (pair_at (length d.domains)) (range_with_len 0 (n * length d.domains)))
     (pairs_map IsBefore (pair_at (length d.domains)) (range_with_len 0 (n * length d.domains)) (λ i j z less under.
@@ -254,7 +254,7 @@ number_below xs written h =
     omega (arith, found.1, at)
 
 -- where names differ, the first domain of a domain's name is that domain
-found_itself : (xs : List DraftDomain) → ((i j : ℕ) (d : DraftDomain) → i < j → j < length xs → bytes_eq (get_or xs i d).name (get_or xs j d).name ≡ false) → (n k : ℕ) (d : DraftDomain) → k < length xs → position_from (λ x. bytes_eq x.name (get_or xs k d).name) n xs ≡ Some (n + k)
+pub found_itself : (xs : List DraftDomain) → ((i j : ℕ) (d : DraftDomain) → i < j → j < length xs → bytes_eq (get_or xs i d).name (get_or xs j d).name ≡ false) → (n k : ℕ) (d : DraftDomain) → k < length xs → position_from (λ x. bytes_eq x.name (get_or xs k d).name) n xs ≡ Some (n + k)
 found_itself [] apart n k d less = absurd (omega arith)
 found_itself (x ∷ xs) apart n zero d less =
     let same : bytes_eq x.name x.name ≡ true = (bytes_eq-Decides x.name x.name).1 refl in

@@ -60,7 +60,7 @@ nobody = record { name = []; channels = 0 }
 hosted-count : (p : Plan) (n : ℕ) (names : List (List ℕ)) → names ≡ map (name_of p) (hosted_by p n) → length (hosted_by p n) ≡ length names
 hosted-count p n names e = sym (length-map (hosted_by p n) (name_of p)) ∙ sym (ap length e)
 
-none-not : (k : ℕ) → k ≢ 0 → (k == 0) ≡ false
+pub none-not : (k : ℕ) → k ≢ 0 → (k == 0) ≡ false
 none-not k some = grind (arith, nat_tests)
 
 -- a tile with names hosts a domain

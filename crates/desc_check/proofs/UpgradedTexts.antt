@@ -1,17 +1,17 @@
 -- The texts of an upgraded draft are UTF-8.
-use Rattle.std.proofs.Common.{◌≡◌, ℕ, zero, suc, ◌+◌, ◌<◌, ◌≤◌, ◌⊎◌, inl, inr, Bool, true, false, List, [], ◌∷◌, length, map, get_or, refl, sym, ap, ◌∙◌, subst, rules, arith, lit<, if◌then◌else◌}
-use Rattle.std.specs.Prelude.{All, codes, slice_get, Some, None, slice_index}
+use Rattle.std.proofs.Common.{◌≡◌, ℕ, zero, suc, ◌<◌, inl, inr, Bool, true, false, List, [], ◌∷◌, map, get_or, subst, rules, arith, lit<, if◌then◌else◌}
+use Rattle.std.specs.Prelude.{All, codes}
 use Rattle.std.specs.Str.{IsAscii, is_utf8}
 use Rattle.std.proofs.lemmas.Str.{is_utf8-from_IsUtf8, IsUtf8-from_ascii, IsUtf8-nil}
 use Rattle.std.proofs.lemmas.Option.{slice_get_cases}
 use Rattle.std.proofs.lemmas.List.Elements.{All-map}
 use Rattle.noc_model.specs.declared.plan.DomainPart.{DomainPart}
-use Rattle.noc_model.specs.Plan.{Plan, name_in, name_of}
+use Rattle.noc_model.specs.Plan.{Plan, name_of}
 use Rattle.noc_model.specs.Sound.{IsNameByte, IsName, IsSound}
 use Rattle.noc_desc.specs.declared.DraftDomain.{DraftDomain}
 use Rattle.noc_desc.specs.declared.DraftTile.{DraftTile}
 use Rattle.noc_desc.specs.Document.{AreTexts}
-use Rattle.desc_check.specs.Upgrade.{hosted_by, tile_of, hosting, domain_draft, shape_of, upgrade_of}
+use Rattle.desc_check.specs.Upgrade.{hosted_by, tile_of, hosting, domain_draft, upgrade_of}
 
 small : (b : ℕ) → IsNameByte b → b < 128
 small b (inl h) = omega arith

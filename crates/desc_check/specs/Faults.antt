@@ -10,7 +10,7 @@ use Rattle.noc_desc.specs.declared.DraftTile.{DraftTile}
 use Rattle.noc_desc.specs.declared.DraftRange.{DraftRange}
 use Rattle.desc_check.specs.Words.{is_between, is_within, is_below, is_name, is_domain, is_among, fault_if, first_at}
 use Rattle.desc_check.specs.Network.{tile_count}
-use Rattle.noc_model.specs.Limits.{most_tiles, most_stages, most_buffer, most_domains, most_channels, most_hosts, most_ranges, most_places, most_slots}
+use Rattle.noc_model.specs.Limits.{most_side, most_tiles, most_stages, most_buffer, most_domains, most_channels, most_hosts, most_ranges, most_places, most_slots}
 
 -- ---- the form of the network
 
@@ -26,9 +26,9 @@ shape_fault shape = fault_if (not (bytes_eq shape (codes "mesh") || bytes_eq sha
 abbrev pub most_sides : ℤ → ℕ
 most_sides version = if int_eq version (pos 1) then 2 else 3
 
--- one side or more, each of 1 to 16 tiles, with not too many tiles in all
+-- one side or more, each within its limits, with not too many tiles in all
 abbrev pub has_sides : ℤ → List ℤ → Bool
-has_sides version dims = is_between 1 (most_sides version) (length dims) && list_all (is_within 1 16) dims
+has_sides version dims = is_between 1 (most_sides version) (length dims) && list_all (is_within 1 most_side) dims
     && nat_le (tile_count dims) most_tiles
 
 abbrev pub dims_fault : ℤ → List ℤ → Option DescFault

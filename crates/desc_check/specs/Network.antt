@@ -44,7 +44,7 @@ pair_at count k = record { tile = k / count; domain = k % count }
 abbrev pub hosts_of : ℕ → List DraftDomain → List DraftTile → List Host
 hosts_of tiles domains elements =
     filter (λ (h : Host). is_hosted elements h.tile (name_at domains h.domain))
-        (map (pair_at (length domains)) (range_with_len 0 (tiles * length domains)))
+    (map (pair_at (length domains)) (range_with_len 0 (tiles * length domains)))
 
 -- the number of the first domain of this name; 0 where there is none
 abbrev pub domain_number : List DraftDomain → List ℕ → ℕ

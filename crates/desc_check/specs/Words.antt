@@ -3,6 +3,7 @@ use Rattle.std.specs.Prelude.{ℕ, ◌+◌, Bool, false, ◌&&◌, ◌||◌, ◌
 use Rattle.std.specs.Option.{option_or}
 use Rattle.std.specs.List.{list_any, list_all}
 use Rattle.std.specs.Str.{bytes_eq}
+use Rattle.noc_model.specs.Limits.{most_name}
 use Rattle.noc_desc.specs.declared.DraftDomain.{DraftDomain}
 use Rattle.noc_desc.specs.declared.DescFault.{DescFault}
 
@@ -29,9 +30,9 @@ is_below n (negsuc m) = false
 abbrev pub is_name_byte : ℕ → Bool
 is_name_byte b = is_between 48 57 b || is_between 65 90 b || is_between 97 122 b || b == 95 || b == 45
 
--- 1 to 16 bytes of a name
+-- one byte or more of a name, and not too many
 abbrev pub is_name : List ℕ → Bool
-is_name bytes = is_between 1 16 (length bytes) && list_all is_name_byte bytes
+is_name bytes = is_between 1 most_name (length bytes) && list_all is_name_byte bytes
 
 -- one of the domains has the name
 abbrev pub is_domain : List DraftDomain → List ℕ → Bool

@@ -2,6 +2,7 @@
 
 ghost use Rattle.std.specs.Prelude.{◌≡◌, ◌≤◌, length, true};
 ghost use Rattle.std.specs.List.{list_all};
+ghost use Rattle.noc_model.specs.Limits.{most_side};
 ghost use Rattle.desc_check.specs.Words.{is_within, number_of};
 ghost use Rattle.desc_check.specs.Network.{tile_count};
 ghost use Rattle.desc_check.specs.Faults.{version_fault, shape_fault, most_sides, has_sides, dims_fault, stages_fault, buffer_fault};
@@ -9,28 +10,28 @@ ghost use Rattle.desc_check.specs.Accepted.{form_fault};
 
 use crate::words::{fault_if, is_between, is_within};
 use noc_desc::{DescFault, Draft};
-use noc_model::limits::{MOST_BUFFER, MOST_STAGES, MOST_TILES};
+use noc_model::limits::{MOST_BUFFER, MOST_SIDE, MOST_STAGES, MOST_TILES};
 
-/// A number that was judged.
+/// A side that was judged.
 pub(crate) fn number_of(value: i64) -> u32
-    requires { is_within 1 16 value ≡ true }
+    requires { is_within 1 most_side value ≡ true }
     ensures value { result ≡ number_of value }
-    ensures few { result ≤ 16 }
+    ensures few { result ≤ most_side }
 {
     value as u32
 }
 
-/// Whether each side is from 1 to 16.
+/// Whether each side is within its limits.
 fn are_sides(dims: &[i64]) -> bool
-    ensures { result ≡ list_all (is_within 1 16) dims.now }
+    ensures { result ≡ list_all (is_within 1 most_side) dims.now }
 {
-    dims.iter().all(|side| is_within(1, 16, *side))
+    dims.iter().all(|side| is_within(1, MOST_SIDE, *side))
 }
 
 /// The number of tiles.
 pub(crate) fn tile_count(dims: &[i64]) -> u32
     requires few { length dims.now ≤ 3 }
-    requires sides { list_all (is_within 1 16) dims.now ≡ true }
+    requires sides { list_all (is_within 1 most_side) dims.now ≡ true }
     ensures value { result ≡ tile_count dims.now }
 {
     match dims {

@@ -1,8 +1,9 @@
 //! Judges the draft of a description, and makes the plan of one without a fault.
 //!
 //! `check` answers the plan that the draft says exactly where the draft has no fault, and else the first one: by its
-//! number, then by the least indices. What a fault is stands in `specs/`, one definition each, as a search along the
-//! draft's lists. Reading the description, and the faults of its keys and values, are left to the crate below.
+//! number, then by the least indices; or memory runs out. What a fault is stands in `specs/`, one definition each, as a
+//! search along the draft's lists. `draft_of` answers the draft of version 2 that says a plan: it has no fault, and its
+//! plan is that plan. Reading the description, and the faults of its keys and values, are left to the crate below.
 #![tactic(auto)]
 
 ghost use Rattle.std.specs.Prelude.{◌≡◌, ◌≤◌, length, take, IfOk, IfErr, Some, None};
@@ -80,7 +81,7 @@ fn plan_fault(parts: &Parts) -> Option<DescFault>
 ///
 /// # Errors
 ///
-/// The draft's first fault, exactly where it has one, and `Memory` where an allocation was refused.
+/// The draft's first fault where it has one, or `Memory` when memory runs out.
 pub fn check(alloc: Global, draft: Draft) -> Result<Plan, DescFault>
     ensures ok { IfOk result (λ plan. (first_fault draft ≡ None) × (plan ≡ plan_of_draft draft)) }
     ensures fault { IfErr result (λ fault. ¬ IsMemory fault → first_fault draft ≡ Some fault) }

@@ -2,6 +2,7 @@
 
 ghost use Rattle.std.specs.Prelude.{◌≡◌, ◌<◌, ◌≤◌, length, map, true, pos, None, IfOk};
 ghost use Rattle.std.specs.List.{list_all, range_with_len};
+ghost use Rattle.noc_model.specs.Limits.{most_side, most_tiles, most_stages, most_buffer, most_domains, most_channels};
 ghost use Rattle.noc_model.specs.PlanOf.{plan_of};
 ghost use Rattle.desc_check.specs.Words.{is_below, is_within, number_of};
 ghost use Rattle.desc_check.specs.Network.{tile_count, domain_of, range_of, name_at, is_hosted, hosts_of, domain_number, slots_of, plan_of_draft};
@@ -17,7 +18,7 @@ use surf_base::Bytes;
 
 /// The places of a link.
 fn stages_of(draft: &Draft) -> u32
-    requires { is_within 1 4 draft.now.stages ≡ true }
+    requires { is_within 1 most_stages draft.now.stages ≡ true }
     ensures { result ≡ number_of draft.now.stages }
 {
     draft.stages as u32
@@ -25,7 +26,7 @@ fn stages_of(draft: &Draft) -> u32
 
 /// The flits that a channel may hold.
 fn buffer_of(draft: &Draft) -> u32
-    requires { is_within 1 16 draft.now.buffer ≡ true }
+    requires { is_within 1 most_buffer draft.now.buffer ≡ true }
     ensures { result ≡ number_of draft.now.buffer }
 {
     draft.buffer as u32
@@ -33,7 +34,7 @@ fn buffer_of(draft: &Draft) -> u32
 
 /// The sides.
 fn sides_of(alloc: Global, dims: &[i64]) -> Result<Vec<u32>, AllocError>
-    requires { list_all (is_within 1 16) dims.now ≡ true }
+    requires { list_all (is_within 1 most_side) dims.now ≡ true }
     ensures { IfOk result (λ v. v.items ≡ map number_of dims.now) }
 {
     let mut sides = Vec::new(alloc);
@@ -45,7 +46,7 @@ fn sides_of(alloc: Global, dims: &[i64]) -> Result<Vec<u32>, AllocError>
 
 /// A domain.
 fn domain_of(alloc: Global, domain: &DraftDomain) -> Result<DomainPart, AllocError>
-    requires { is_within 1 4 domain.now.channels ≡ true }
+    requires { is_within 1 most_channels domain.now.channels ≡ true }
     ensures { IfOk result (λ x. x ≡ domain_of domain.now) }
 {
     let name = domain.name.copy(alloc)?;
@@ -118,9 +119,9 @@ fn hosts_of(
     domains: &[DraftDomain],
     elements: &[DraftTile],
 ) -> Result<Vec<Host>, AllocError>
-    requires tiles { tiles ≤ 256 }
+    requires tiles { tiles ≤ most_tiles }
     requires some { 1 ≤ length domains.now }
-    requires few { length domains.now ≤ 16 }
+    requires few { length domains.now ≤ most_domains }
     ensures { IfOk result (λ v. v.items ≡ hosts_of tiles domains.now elements.now) }
 {
     let count = domains.len() as u32;
@@ -139,7 +140,7 @@ fn hosts_of(
 
 /// A slot for each domain, in order.
 fn own_slots(alloc: Global, count: usize) -> Result<Vec<u32>, AllocError>
-    requires { count ≤ 16 }
+    requires { count ≤ most_domains }
     ensures { IfOk result (λ v. v.items ≡ range_with_len 0 count) }
 {
     let mut slots = Vec::new(alloc);
@@ -151,7 +152,7 @@ fn own_slots(alloc: Global, count: usize) -> Result<Vec<u32>, AllocError>
 
 /// The number of the first domain of this name; 0 where there is none.
 fn domain_number(domains: &[DraftDomain], name: &[u8]) -> u32
-    requires { length domains.now ≤ 16 }
+    requires { length domains.now ≤ most_domains }
     ensures { result ≡ domain_number domains.now name.now }
 {
     for (d, domain) in domains.iter().enumerate() {
@@ -168,7 +169,7 @@ fn listed_slots(
     domains: &[DraftDomain],
     slots: &[Bytes],
 ) -> Result<Vec<u32>, AllocError>
-    requires { length domains.now ≤ 16 }
+    requires { length domains.now ≤ most_domains }
     ensures { IfOk result (λ v. v.items ≡ map (domain_number domains.now) slots.now) }
 {
     let mut numbers = Vec::new(alloc);
@@ -185,7 +186,7 @@ fn slots_of(
     domains: &[DraftDomain],
     slots: &[Bytes],
 ) -> Result<Vec<u32>, AllocError>
-    requires { length domains.now ≤ 16 }
+    requires { length domains.now ≤ most_domains }
     ensures { IfOk result (λ v. v.items ≡ slots_of version domains.now slots.now) }
 {
     if version == 1 {

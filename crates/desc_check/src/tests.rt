@@ -1,5 +1,5 @@
-use super::{check, fault_line};
-use noc_desc::read_draft;
+use super::{check, draft_of, fault_line};
+use noc_desc::{read_draft, write_draft};
 use std::alloc::Global;
 use std::test::Fail;
 
@@ -18,8 +18,11 @@ const BOTH: &str = "domain = [{name = \"a\", channels = 1}, {name = \"b\", chann
 const ON_BOTH: &str =
     "tile = [{at = 0, domains = [\"a\", \"b\"]}, {at = 1, domains = [\"a\", \"b\"]}]\n";
 
-/// What is told of a description: its line of fault, or what its plan has.
-fn told(alloc: Global, text: &str) -> Result<Vec<u8>, Fail> {
+const RANGES: &str =
+    "range = [{tile = 0, first = 0, last = 0xff}, {tile = 1, first = 0x100, last = 0x1ff}]\n";
+
+/// What a description comes to: its line of fault, or what its plan has.
+fn judged(alloc: Global, text: &str) -> Result<Vec<u8>, Fail> {
     let plan = match read_draft(alloc, text.as_bytes()) {
         Ok(draft) => check(alloc, draft),
         Err(fault) => Err(fault),
@@ -46,7 +49,7 @@ fn told(alloc: Global, text: &str) -> Result<Vec<u8>, Fail> {
 }
 
 #[test]
-fn tells_the_first_fault(rt: HostRuntime) -> Result<(), Fail> {
+fn answers_the_first_fault(rt: HostRuntime) -> Result<(), Fail> {
     let alloc = rt.alloc();
     for (front, sizes, domains, rest, line) in [
         ("", "", "", "", "fault 3 0 0 0"),
@@ -189,7 +192,7 @@ fn tells_the_first_fault(rt: HostRuntime) -> Result<(), Fail> {
     ] {
         let text = format!(in alloc; "{front}{sizes}{domains}{rest}")?;
         let expected = format!(in alloc; "surf: description {line}\n")?;
-        let found = told(alloc, text.as_str())?;
+        let found = judged(alloc, text.as_str())?;
         assert_eq!(rt; found.as_slice(), expected.as_bytes());
     }
     Ok(())
@@ -227,7 +230,7 @@ fn accepts_up_to_the_places(rt: HostRuntime) -> Result<(), Fail> {
         ),
     ] {
         let text = format!(in alloc; "{front}{sizes}{domains}")?;
-        let found = told(alloc, text.as_str())?;
+        let found = judged(alloc, text.as_str())?;
         assert_eq!(rt; found.as_slice(), line.as_bytes());
     }
     Ok(())
@@ -267,7 +270,7 @@ fn counts_ranges_and_attachments(rt: HostRuntime) -> Result<(), Fail> {
         ranges.push_str(range.as_str())?;
     }
     ranges.push_str("]\n")?;
-    let found = told(alloc, ranges.as_str())?;
+    let found = judged(alloc, ranges.as_str())?;
     assert_eq!(rt;
         found.as_slice(),
         b"surf: description fault 18 1024\n".as_slice()
@@ -281,10 +284,110 @@ fn counts_ranges_and_attachments(rt: HostRuntime) -> Result<(), Fail> {
         tiles.push_str(tile.as_str())?;
     }
     tiles.push_str("]\n")?;
-    let many = told(alloc, tiles.as_str())?;
+    let many = judged(alloc, tiles.as_str())?;
     assert_eq!(rt;
         many.as_slice(),
         b"surf: description fault 22 257\n".as_slice()
     );
+    Ok(())
+}
+
+/// The description of version 2 that `upgrade` writes of an accepted description.
+fn upgraded(alloc: Global, text: &[u8]) -> Result<Vec<u8>, Fail> {
+    let plan = check(alloc, read_draft(alloc, text)?)?;
+    let draft = draft_of(alloc, &plan)?;
+    let bytes = write_draft(alloc, &draft)?;
+    Ok(bytes)
+}
+
+/// Sixteen domains.
+fn push_domains(alloc: Global, text: &mut String) -> Result<(), Fail> {
+    for d in 0..16u32 {
+        let domain = format!(in alloc; "{{name = \"domain-{d}\", channels = 1}},")?;
+        text.push_str(domain.as_str())?;
+    }
+    Ok(())
+}
+
+/// Sixty-four slots.
+fn push_slots(alloc: Global, text: &mut String) -> Result<(), Fail> {
+    for i in 0..64u32 {
+        let slot = format!(in alloc; "\"domain-{}\",", 15 - i % 16)?;
+        text.push_str(slot.as_str())?;
+    }
+    Ok(())
+}
+
+/// A domain at each of 256 tiles.
+fn push_tiles(alloc: Global, text: &mut String) -> Result<(), Fail> {
+    for n in 0..256u32 {
+        let tile = format!(in alloc; "{{at = {n}, domains = [\"domain-{}\"]}},", n % 16)?;
+        text.push_str(tile.as_str())?;
+    }
+    Ok(())
+}
+
+/// 1,024 ranges of 16 addresses.
+fn push_ranges(alloc: Global, text: &mut String) -> Result<(), Fail> {
+    for i in 0..1024u32 {
+        let (tile, first, last) = (i % 256, 16 * i, 16 * i + 15);
+        let range = format!(in alloc; "{{tile = {tile}, first = {first}, last = {last}}},")?;
+        text.push_str(range.as_str())?;
+    }
+    Ok(())
+}
+
+/// A description of the most domains, attachments, ranges and slots.
+fn largest(alloc: Global) -> Result<String, Fail> {
+    let mut text = format!(in alloc;
+        "version = 2\nshape = \"mesh\"\ndims = [16, 16]\nstages = 4\nbuffer = 1\ndomain = ["
+    )?;
+    push_domains(alloc, &mut text)?;
+    text.push_str("]\nslots = [")?;
+    push_slots(alloc, &mut text)?;
+    text.push_str("]\ntile = [")?;
+    push_tiles(alloc, &mut text)?;
+    text.push_str("]\nrange = [")?;
+    push_ranges(alloc, &mut text)?;
+    text.push_str("]\n")?;
+    Ok(text)
+}
+
+#[test]
+fn what_was_upgraded_is_upgraded_to_itself(rt: HostRuntime) -> Result<(), Fail> {
+    let alloc = rt.alloc();
+    let two_tiles = format!(in alloc; "{MESH_OF_TWO}{SIZES}{BOTH}{ON_BOTH}{RANGES}")?;
+    for text in [two_tiles, largest(alloc)?] {
+        let once = upgraded(alloc, text.as_bytes())?;
+        let twice = upgraded(alloc, once.as_slice())?;
+        assert_eq!(rt; twice.as_slice(), once.as_slice());
+    }
+    Ok(())
+}
+
+#[test]
+fn an_upgraded_draft_has_the_plan(rt: HostRuntime) -> Result<(), Fail> {
+    let alloc = rt.alloc();
+    let text = format!(in alloc; "{MESH_OF_TWO}{SIZES}{BOTH}{ON_BOTH}{RANGES}")?;
+    let plan = check(alloc, read_draft(alloc, text.as_bytes())?)?;
+    let draft = draft_of(alloc, &plan)?;
+    assert_eq!(rt; draft.version, 2);
+    assert_eq!(rt; draft.slots.len(), 2);
+    let again = check(alloc, draft)?;
+    assert_eq!(rt; again.tiles(), 2);
+    assert_eq!(rt; again.domains(), 2);
+    assert_eq!(rt; again.attach_count(), 4);
+    for (i, name) in [(0, b"a".as_slice()), (1, b"b".as_slice())] {
+        assert_eq!(rt; again.name(again.slot(i)), name);
+    }
+    for (address, tile) in [
+        (0, Some(0)),
+        (255, Some(0)),
+        (256, Some(1)),
+        (511, Some(1)),
+        (512, None),
+    ] {
+        assert_eq!(rt; again.lookup(0, address), tile);
+    }
     Ok(())
 }

@@ -1,8 +1,10 @@
 //! The draft of version 2 that says a plan.
 
-ghost use Rattle.std.specs.Prelude.{◌≡◌, ◌<◌, ℕ, length, map, pos, IfOk};
+ghost use Rattle.std.specs.Prelude.{◌≡◌, ◌<◌, ℕ, length, map, pos, IfOk, None};
 ghost use Rattle.noc_model.specs.Plan.{Plan as PlanValue, tiles, name_of};
 ghost use Rattle.noc_desc.specs.Document.{AreTexts};
+ghost use Rattle.desc_check.specs.Network.{plan_of_draft};
+ghost use Rattle.desc_check.specs.Accepted.{first_fault};
 ghost use Rattle.desc_check.specs.Upgrade.{hosted_by, tile_of, hosting, domain_draft, range_draft, shape_of, upgrade_of};
 
 use noc_desc::{
@@ -119,14 +121,17 @@ fn values_of(alloc: Global, plan: &Plan) -> Result<Draft, AllocError>
     })
 }
 
-/// The draft of version 2 that says the plan: its tiles are those that host a domain, its slots the plan's, in order.
+/// The draft of version 2 that says the plan: its tiles are those that host a domain, its slots the plan's, in order. So
+/// to upgrade a description is harmless: the draft is accepted, and its plan is the same plan.
 ///
 /// # Errors
 ///
-/// `AllocError`, where memory ran out.
+/// `AllocError`, when memory runs out.
 pub fn draft_of(alloc: Global, plan: &Plan) -> Result<Draft, AllocError>
     ensures value { IfOk result (λ draft. draft ≡ upgrade_of plan.now) }
     ensures texts { IfOk result AreTexts }
+    ensures accepted { IfOk result (λ draft. first_fault draft ≡ None) }
+    ensures same_plan { IfOk result (λ draft. plan_of_draft draft ≡ plan.now) }
 {
     plan.known();
     values_of(alloc, plan)

@@ -5,6 +5,7 @@ ghost use Rattle.std.specs.List.{list_any, list_all};
 ghost use Rattle.desc_check.specs.Words.{is_between, is_within, is_below, is_name_byte, is_name, is_domain, is_among, fault_if};
 
 use noc_desc::{DescFault, DraftDomain};
+use noc_model::limits::MOST_NAME;
 use surf_base::Bytes;
 
 /// The fault, where it is one.
@@ -53,7 +54,7 @@ fn are_name_bytes(bytes: &[u8]) -> bool
 pub(crate) fn is_name(bytes: &[u8]) -> bool
     ensures { result ≡ is_name bytes.now }
 {
-    is_between(1, 16, bytes.len()) && are_name_bytes(bytes)
+    is_between(1, MOST_NAME, bytes.len()) && are_name_bytes(bytes)
 }
 
 /// Whether one of the domains has the name.

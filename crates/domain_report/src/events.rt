@@ -40,7 +40,7 @@ pub(crate) fn put_events<O: Sink>(
 ) -> Result<Counts, Failed>
     ensures lines { Writes result (stream (O.written out.old) block.old (O.faults out.old))
         (stream (O.written out.new) block.new (O.faults out.new))
-            (flat_map event_line (filter (λ e. e.domain == d) events.now)) }
+        (flat_map event_line (filter (λ e. e.domain == d) events.now)) }
     ensures counts { IfOk result (λ counts. counts ≡ counts_of (filter (λ e. e.domain == d) events.now)) }
 {
     let mut counts = Counts {

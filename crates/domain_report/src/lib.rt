@@ -61,7 +61,7 @@ pub fn put_report<O: Sink>(
     requires { d < length plan.now.domains }
     ensures { Writes result (stream (O.written out.old) block.old (O.faults out.old))
         (stream (O.written out.new) block.new (O.faults out.new))
-            (report plan.now d (filter (λ e. e.domain == d) events.now)) }
+        (report plan.now d (filter (λ e. e.domain == d) events.now)) }
 {
     put_title(block, out, plan.name(d))?;
     let counts = put_events(block, out, events.as_slice(), d)?;

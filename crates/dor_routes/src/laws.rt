@@ -16,7 +16,7 @@ use noc_model::laws::rank_rises;
 pub fn no_circle()
     ensures along { (p : Plan) (dest n i k m : ℕ) (a b : Stop) → IsSound p → i < k → stop_at p dest n i ≡ Some a
         → stop_at p dest n k ≡ Some b → neighbour p b.tile (out_of p dest b) ≡ Some m
-            → out_rank p dest a < out_rank p dest b }
+        → out_rank p dest a < out_rank p dest b }
     ensures chain { (p : Plan) (a b : Channel) (between : List Channel) → IsSound p → Chain p a between b
         → channel_rank p a < channel_rank p b }
     ensures circle { (p : Plan) (a : Channel) (between : List Channel) → IsSound p → Chain p a between a → ⊥ }

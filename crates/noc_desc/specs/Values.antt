@@ -57,8 +57,11 @@ tile members = record { at = number_at At members; domains = texts (elements_at 
 
 -- a range's table
 abbrev pub range : Members → DraftRange
-range members = record { tile = number_at InTile members; first = number_at First members;
-    last = number_at Last members }
+range members = record {
+  tile = number_at InTile members;
+  first = number_at First members;
+  last = number_at Last members;
+}
 
 -- the domains among some elements
 abbrev pub domains : Items → List DraftDomain

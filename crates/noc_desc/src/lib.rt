@@ -2,9 +2,10 @@
 //!
 //! [`read_draft`] promises the values of the document's table, as they stand there, exactly where
 //! each of its tables has the listed keys and no others, each with a value of the listed form.
-//! Else it answers the first fault: by its number, then by kind of table, element and key. Whether
-//! a number or a name makes sense in a network is left to the crate that checks drafts; its faults
-//! are variants of [`DescFault`] too, so that a description has one list of them.
+//! Else it answers the first fault: by its number, then by kind of table, element and key; or
+//! memory runs out. Whether a number or a name makes sense in a network is left to the crate that
+//! checks drafts; its faults are variants of [`DescFault`] too, so that a description has one list
+//! of them.
 #![tactic(auto)]
 
 ghost use Rattle.std.specs.Prelude.{◌≡◌, Some, None, IfOk, IfErr};
@@ -168,7 +169,7 @@ pub struct Draft {
 /// # Errors
 ///
 /// `NotToml`, `KeyUnknown`, `KeyMissing` or `KeyKind`, whichever is the description's first fault,
-/// exactly where it has one; `Memory` where an allocation was refused.
+/// where it has one; `Memory` when memory runs out.
 pub fn read_draft(alloc: Global, bytes: &[u8]) -> Result<Draft, DescFault>
     ensures ok { IfOk result (λ draft. draft_of bytes.now ≡ Some draft) }
     ensures no_fault { IfOk result (λ _. first_fault bytes.now ≡ None) }

@@ -112,13 +112,21 @@ fn two_tiles(alloc: Global) -> Result<Draft, AllocError>
 }
 
 #[test]
-fn a_range_is_written_after_the_values(rt: HostRuntime) -> Result<(), Fail> {
+fn a_written_draft_reads_back(rt: HostRuntime) -> Result<(), Fail> {
     let alloc = rt.alloc();
-    let draft = two_tiles(alloc)?;
-    let bytes = write_draft(alloc, &draft)?;
-    let text =
-        "buffer = 2\ndims = [2]\ndomain = []\nshape = \"mesh\"\nslots = []\nstages = 1\ntile = []\n\
-version = 2\n\n[[range]]\nfirst = 256\nlast = 511\ntile = 1\n";
-    assert_eq!(rt; bytes.as_slice(), text.as_bytes());
+    let bytes = write_draft(alloc, &two_tiles(alloc)?)?;
+    let draft = read_draft(alloc, bytes.as_slice())?;
+    assert_eq!(rt; draft.version, 2);
+    assert_eq!(rt; draft.shape.as_slice(), b"mesh".as_slice());
+    assert_eq!(rt; draft.dims.as_slice(), [2].as_slice());
+    assert_eq!(rt; draft.stages, 1);
+    assert_eq!(rt; draft.buffer, 2);
+    assert_eq!(rt; draft.domains.len(), 0);
+    assert_eq!(rt; draft.tiles.len(), 0);
+    assert_eq!(rt; draft.ranges.len(), 1);
+    assert_eq!(rt; draft.ranges.at(0).tile, 1);
+    assert_eq!(rt; draft.ranges.at(0).first, 256);
+    assert_eq!(rt; draft.ranges.at(0).last, 511);
+    assert_eq!(rt; draft.slots.len(), 0);
     Ok(())
 }

@@ -56,7 +56,7 @@ next_state p d v t s j state None = state
 next_state p d v t s j state (Some h) =
     if h.domain == d
     then after_got v j (after_taken v j state t (is_open p (s h.tile) && is_some (v.offer j state t))) t
-        (v.hears j state t) (ejected_of (s h.tile).ejected)
+    (v.hears j state t) (ejected_of (s h.tile).ejected)
     else state
 
 -- the attachments' states after cycle t

@@ -35,7 +35,7 @@ got_events t n d true (Some e) = record { cycle = t; tile = n; domain = d; kind 
 abbrev pub tile_events : Plan → ℕ → ℕ → State → Input → ℕ → List Event
 tile_events p d t s x n =
     offer_events t n d (is_open p (s n)) (x.offer n) ++ drop_events t n d (s n).dropped
-        ++ got_events t n d (x.hears n) (ejected_of (s n).ejected)
+    ++ got_events t n d (x.hears n) (ejected_of (s n).ejected)
 
 -- f at 0, f at 1 and so on, below n
 abbrev pub tabulate : {A : Type 0} → ℕ → (ℕ → A) → List A

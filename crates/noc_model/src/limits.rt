@@ -1,5 +1,11 @@
 //! The greatest sizes of a network.
 
+/// Sides of a network.
+pub const MOST_SIDES: usize = 3;
+
+/// Tiles along a side.
+pub const MOST_SIDE: u32 = 16;
+
 /// Tiles in all.
 pub const MOST_TILES: u32 = 256;
 
@@ -8,6 +14,9 @@ pub const MOST_STAGES: u32 = 4;
 
 /// Flits in a channel's buffer.
 pub const MOST_BUFFER: u32 = 16;
+
+/// Bytes of a name.
+pub const MOST_NAME: usize = 16;
 
 /// Domains.
 pub const MOST_DOMAINS: usize = 16;

@@ -2,6 +2,7 @@
 
 ghost use Rattle.std.specs.Prelude.{◌≡◌, ◌<◌, ◌≤◌, length, slice_get, Some, is_some, IfSome, find, position};
 ghost use Rattle.std.specs.List.{list_any};
+ghost use Rattle.noc_model.specs.Limits.{most_hosts};
 ghost use Rattle.noc_model.specs.Plan.{is_host, holds_address};
 
 use crate::{Host, Range};
@@ -15,7 +16,7 @@ fn host_place(hosts: &[Host], n: u32, d: u32) -> Option<usize>
 
 /// The number of the host of tile `n` and domain `d`.
 pub(crate) fn host_in(hosts: &[Host], n: u32, d: u32) -> Option<u32>
-    requires { length hosts.now ≤ 256 }
+    requires { length hosts.now ≤ most_hosts }
     ensures value { result ≡ position (is_host n d) hosts.now }
     ensures found { IfSome result (λ j. slice_get hosts.now j ≡ Some (record { tile = n; domain = d })) }
     ensures hosted { is_some result ≡ list_any (is_host n d) hosts.now }

@@ -2,7 +2,7 @@
 
 ghost use Rattle.std.specs.Prelude.{◌≡◌, ◌≢◌, ◌<◌, ◌≤◌, ℕ, length, slice_index, slice_get, slice_set, option_map, Some, is_some, IfSome, IfNone, IfOk};
 ghost use Rattle.noc_model.specs.Plan.{product, tiles, ports, hop, channels, classes, name_of, places, hosts, attach_of, lookup};
-ghost use Rattle.noc_model.specs.Limits.{most_tiles, most_buffer, most_domains};
+ghost use Rattle.noc_model.specs.Limits.{most_sides, most_tiles, most_buffer, most_domains};
 ghost use Rattle.noc_model.specs.Sound.{AreSides, HaveChannels};
 ghost use Rattle.noc_model.specs.Place.{side, coord, coords_in, tile_in, neighbour};
 
@@ -48,7 +48,7 @@ impl Parts {
     /// The places for flits in the input buffers of a network of these parts, where every port counts as one with a
     /// link.
     pub fn places(&self) -> u32
-        requires dims { length self.now.dims.items ≤ 3 }
+        requires dims { length self.now.dims.items ≤ most_sides }
         requires sides { AreSides self.now.dims.items }
         requires tiles { product self.now.dims.items ≤ most_tiles }
         requires buffer { self.now.buffer ≤ most_buffer }

@@ -105,7 +105,7 @@ fn offer_at<D: Drive>(plan: &Plan, here: Here, drive: &D) -> Option<Offer>
     requires count { D.count drive.now ≡ length plan.now.hosts }
     ensures { result ≡ (if hosts plan.now here.tile here.domain
         then (driven plan.now here.domain (D.driver drive.now) (D.state drive.now) here.cycle).offer here.tile else
-            None) }
+        None) }
 {
     match plan.attach_of(here.tile, here.domain) {
         Some(j) => drive.offer(j, here.cycle),

@@ -49,7 +49,7 @@ fn one_cycle<D: Drive>(
         → IsFit plan.now (record { domain = d; tile = n; cycle = cycle }) (state_of plan.now d net.now n) }
     ensures events { OnOk result (events.new.items ≡ events.old.items
         ++ cycle_events plan.now d cycle (state_of plan.now d net.now)
-            (driven plan.now d (D.driver drive.old) (D.state drive.old) cycle)) }
+        (driven plan.now d (D.driver drive.old) (D.state drive.old) cycle)) }
     ensures all { IfOk result (λ v. length v.items ≡ tiles plan.now) }
     ensures steps { IfOk result (λ v. (n : ℕ) → n < tiles plan.now → IsSame plan.now d (state_of plan.now d v.items n)
         (step plan.now d (pos cycle) (state_of plan.now d net.now) (driven plan.now d (D.driver drive.old) (D.state drive.old) cycle) n)) }

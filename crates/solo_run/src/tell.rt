@@ -103,7 +103,7 @@ fn add_at<D: Drive>(
         ++ (offer_events here.cycle here.tile here.domain (is_open plan.now (tile_of plan.now here.domain tile.now)) ((D.driver drive.now).offer j (D.state drive.now j) here.cycle)
         ++ drop_events here.cycle here.tile here.domain tile.now.dropped
         ++ got_events here.cycle here.tile here.domain ((D.driver drive.now).hears j (D.state drive.now j) here.cycle)
-            (ejected_of tile.now.ejected))) }
+        (ejected_of tile.now.ejected))) }
 {
     let ready = is_open(plan, here.domain, tile);
     add_offer(events, here, ready, drive.offer(j, here.cycle))?;
@@ -147,7 +147,7 @@ pub(crate) fn add_events<D: Drive>(
     requires count { D.count drive.now ≡ length plan.now.hosts }
     ensures { OnOk result (events.new.items ≡ events.old.items
         ++ cycle_events plan.now domain cycle (state_of plan.now domain net.now)
-            (driven plan.now domain (D.driver drive.now) (D.state drive.now) cycle)) }
+        (driven plan.now domain (D.driver drive.now) (D.state drive.now) cycle)) }
 {
     for tile in 0..plan.tiles() {
         let here = Here {
@@ -169,7 +169,7 @@ fn tell_at<D: Drive>(drive: &mut D, plan: &Plan, here: Here, j: u32, tile: &Solo
     ensures state { D.state drive.new j ≡ after_got (D.driver drive.old) j
         (after_taken (D.driver drive.old) j (D.state drive.old j) here.cycle
         (is_open plan.now (tile_of plan.now here.domain tile.now)
-            && is_some ((D.driver drive.old).offer j (D.state drive.old j) here.cycle)))
+        && is_some ((D.driver drive.old).offer j (D.state drive.old j) here.cycle)))
         here.cycle ((D.driver drive.old).hears j (D.state drive.old j) here.cycle) (ejected_of tile.now.ejected) }
     ensures others { (k : ℕ) → k ≢ j → D.state drive.new k ≡ D.state drive.old k }
 {

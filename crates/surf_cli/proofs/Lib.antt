@@ -6,5 +6,6 @@ pub mod Ended
 pub mod Simulated
 pub mod Loadings
 pub mod Makings
+pub mod OneReport
 pub mod Readings
 pub mod Runnings

@@ -1,16 +1,20 @@
 -- Answers that are made.
-use Rattle.std.proofs.Common.{◌≡◌, ℕ, List, ◌∙◌, ap, sym, subst}
+use Rattle.std.proofs.Common.{◌≡◌, ℕ, List, None, ◌∙◌, ap, sym, subst}
 use Rattle.noc_model.specs.Plan.{Plan}
 use Rattle.trace_read.specs.declared.entries.Entry.{Entry}
 use Rattle.surf_cli.specs.declared.statuses.End.{End}
 use Rattle.surf_cli.specs.Contents.{Contents}
 use Rattle.std.specs.Prelude.{Some}
-use Rattle.noc_desc.specs.Draft.{table_of}
+use Rattle.noc_desc.specs.declared.Draft.{Draft}
+use Rattle.noc_desc.specs.Draft as table
+use Rattle.noc_desc.specs.Draft.{table_of, draft_of}
 use Rattle.noc_desc.specs.Document.{document}
+use Rattle.desc_check.specs.Network.{plan_of_draft}
+use Rattle.desc_check.specs.Accepted.{first_fault}
 use Rattle.desc_check.specs.Upgrade.{upgrade_of}
 use Rattle.surf_cli.specs.Jobs.{Simulate, Upgrade}
 use Rattle.surf_cli.specs.Simulate.{reports_text}
-use Rattle.surf_cli.specs.Meaning.{Outcome, Does, Exactly, UpgradeOf, with_plan, with_built, with_trace, over}
+use Rattle.surf_cli.specs.Meaning.{Outcome, Does, Exactly, UpgradeOf, Judged, Described, judged_plan, judged_draft, judged, with_plan, with_built, with_trace, over}
 use Rattle.surf_cli.specs.Answers.{Makes, IsRefused}
 
 -- the bytes are exactly those that are to be written
@@ -48,8 +52,32 @@ reports-made held cycles description trace bytes p es e f plan built entries is 
 
 -- ---- an upgrade
 
+-- bytes whose draft is accepted are judged as its plan
+judged-again : (bytes : List ℕ) (d : Draft) (p : Plan) → table.first_fault bytes ≡ None → draft_of bytes ≡ Some d
+    → first_fault d ≡ None → plan_of_draft d ≡ p → judged bytes ≡ Described p
+unfolding judged
+judged-again bytes d p none read accepted same =
+    ap (λ f. judged_draft f (draft_of bytes)) none ∙ ap (judged_draft None) read
+    ∙ ap (λ f. judged_plan f (plan_of_draft d)) accepted ∙ ap Described same
+
+-- what is written of a plan's draft of version 2
+pub record IsWritten (p : Plan) (bytes : List ℕ) : Type 0 where
+  pub draft : Draft
+  pub is : draft ≡ upgrade_of p
+  pub has_table : table_of bytes ≡ Some (document draft)
+  pub no_fault : table.first_fault bytes ≡ None
+  pub reads_back : draft_of bytes ≡ Some draft
+  pub accepted : first_fault draft ≡ None
+  pub same_plan : plan_of_draft draft ≡ p
+
 -- whose document is made
-pub upgrade-made : (held : Contents) (description bytes : List ℕ) (p : Plan) → description ≡ held.description → ((next : Plan → Outcome) → with_plan description next ≡ next p)
-    → table_of bytes ≡ Some (document (upgrade_of p)) → Makes (over Upgrade held) bytes
-upgrade-made held description bytes p e plan right =
-    record { work = UpgradeOf p; meant = ap (λ d. with_plan d (λ q. Does (UpgradeOf q))) (sym e) ∙ plan (λ q. Does (UpgradeOf q)); right = right }
+pub upgrade-made : (held : Contents) (description bytes : List ℕ) (p : Plan) → description ≡ held.description
+    → ((next : Plan → Outcome) → with_plan description next ≡ next p) → IsWritten p bytes → Makes (over Upgrade held) bytes
+upgrade-made held description bytes p e plan written =
+    let document-is = written.has_table ∙ ap (λ d. Some (document d)) written.is in
+    let judged-is = judged-again bytes written.draft p written.no_fault written.reads_back written.accepted written.same_plan in
+    record {
+      work = UpgradeOf p;
+      meant = ap (λ d. with_plan d (λ q. Does (UpgradeOf q))) (sym e) ∙ plan (λ q. Does (UpgradeOf q));
+      right = (document-is, judged-is);
+    }

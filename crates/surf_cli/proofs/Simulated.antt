@@ -47,7 +47,8 @@ run-alone p q v states events es cycles same driver untouched each d less =
     ∙ ap (λ (w : Driver). driven_events p d w cycles 0 (start p) states) driver
     ∙ driven_events-same p d (trace_driver p es) (trace_driver p (of_domain p d es)) cycles 0 (start p) states (λ j. untaken) (λ j own. alike p d j es own) (λ j own. untouched j)
 
-report-alone : (p : Plan) (events : List Event) (es : List Entry) (cycles d : ℕ) → events_of events d ≡ events_alone p es cycles d → report p d (events_of events d) ≡ report_text p es cycles d
+-- the report of these events is that of the domain alone
+pub report-alone : (p : Plan) (events : List Event) (es : List Entry) (cycles d : ℕ) → events_of events d ≡ events_alone p es cycles d → report p d (events_of events d) ≡ report_text p es cycles d
 unfolding report_text
 report-alone p events es cycles d same = ap (report p d) same
 

@@ -6,7 +6,7 @@ use Rattle.surf_cli.specs.declared.files.FileKind.TheVariants.{Description, Trac
 use Rattle.noc_model.specs.Limits.{most_cycles}
 use Rattle.surf_cli.specs.Limits.{table_cycles}
 use Rattle.surf_cli.specs.Files.{NamedFile, file_of}
-use Rattle.surf_cli.specs.Jobs.{Schedule, Check, Routes, Simulate, Upgrade, Command, command}
+use Rattle.surf_cli.specs.Jobs.{Schedule, Check, Routes, Simulate, Report, Upgrade, Command, command}
 
 -- schedule DESC CYCLES
 abbrev pub schedule_words : List (List ℕ) → Option Command
@@ -28,8 +28,15 @@ routes_words _ = None
 abbrev pub simulate_words : List (List ℕ) → Option Command
 simulate_words (description ∷ trace ∷ cycles ∷ []) =
     option_map (λ n. command (file_of Description description ∷ file_of Trace trace ∷ []) (Simulate n))
-        (decimal_in most_cycles cycles)
+    (decimal_in most_cycles cycles)
 simulate_words _ = None
+
+-- report DESC TRACE CYCLES DOMAIN
+abbrev pub report_words : List (List ℕ) → Option Command
+report_words (description ∷ trace ∷ cycles ∷ domain ∷ []) =
+    option_map (λ n. command (file_of Description description ∷ file_of Trace trace ∷ []) (Report n domain))
+    (decimal_in most_cycles cycles)
+report_words _ = None
 
 -- upgrade DESC
 abbrev pub upgrade_words : List (List ℕ) → Option Command
@@ -43,6 +50,7 @@ command_by verb args =
     else if bytes_eq verb (codes "check") then check_words args
     else if bytes_eq verb (codes "routes") then routes_words args
     else if bytes_eq verb (codes "simulate") then simulate_words args
+    else if bytes_eq verb (codes "report") then report_words args
     else if bytes_eq verb (codes "upgrade") then upgrade_words args
     else None
 

@@ -9,6 +9,7 @@ pub data Job : Type 0 where
   Check : Job
   Routes : Job
   Simulate : (cycles : ℕ) → Job
+  Report : (cycles : ℕ) (domain : List ℕ) → Job
   Upgrade : Job
 
 pub record Command : Type 0 where
@@ -21,4 +22,5 @@ command files job = record { files = files; job = job }
 -- a run has at most so many cycles
 abbrev pub HasFewCycles : Job → Type 0
 HasFewCycles (Simulate cycles) = cycles ≤ most_cycles
+HasFewCycles (Report cycles domain) = cycles ≤ most_cycles
 HasFewCycles _ = Unit {0}

@@ -9,7 +9,7 @@ use Rattle.surf_cli.specs.declared.statuses.Status.TheVariants as status
 use Rattle.surf_cli.specs.declared.statuses.End.{End}
 use Rattle.surf_cli.specs.declared.statuses.End.TheVariants.{Good, Usage, Refused, Read, Write, Memory, TooLong}
 use Rattle.surf_cli.specs.declared.refusals.Refusal.{Refusal}
-use Rattle.surf_cli.specs.declared.refusals.Refusal.TheVariants.{Description, NotBuilt, Trace}
+use Rattle.surf_cli.specs.declared.refusals.Refusal.TheVariants.{Description, NoDomain, NotBuilt, Trace}
 
 -- the number that the process ends with
 abbrev pub number_of : Status → ℕ
@@ -21,22 +21,26 @@ number_of status.Read = 6
 number_of status.Write = 7
 number_of status.Memory = 8
 number_of status.TooLong = 9
+number_of status.Domain = 10
 
 -- the status of a refusal
 abbrev pub status_of_refusal : Refusal → Status
 status_of_refusal (Description fault) = status.Description
+status_of_refusal NoDomain = status.Domain
 status_of_refusal NotBuilt = status.Description
 status_of_refusal (Trace fault) = status.Trace
 
 -- the line of a refusal
 abbrev pub line_of_refusal : Refusal → List ℕ
 line_of_refusal (Description fault) = description.line_of fault
+line_of_refusal NoDomain = codes "surf: no such domain\n"
 line_of_refusal NotBuilt = codes "surf: description not built\n"
 line_of_refusal (Trace fault) = trace.line_of fault
 
 -- the refusal carries a fault of what was read, and not that memory ran out
 abbrev pub IsOfContents : Refusal → Type 0
 IsOfContents (Description fault) = IsMemory fault → ⊥
+IsOfContents NoDomain = Unit {0}
 IsOfContents NotBuilt = Unit {0}
 IsOfContents (Trace fault) = trace.place_of fault ≢ None
 

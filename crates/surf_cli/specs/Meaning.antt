@@ -13,30 +13,25 @@ use Rattle.desc_check.specs.Network.{plan_of_draft}
 use Rattle.desc_check.specs.Accepted.{first_fault}
 use Rattle.trace_read.specs.declared.entries.Entry.{Entry}
 use Rattle.trace_read.specs.declared.fault.TraceFault.{TraceFault}
-use Rattle.trace_read.specs.Entries.{entries}
+use Rattle.trace_read.specs.Entries.{entries, domain_named}
 use Rattle.trace_read.specs.Accepted as trace
 use Rattle.surf_cli.specs.declared.files.FileKind.{FileKind}
 use Rattle.surf_cli.specs.declared.statuses.End.{End}
 use Rattle.surf_cli.specs.declared.statuses.End.TheVariants.{Good, Usage, Refused, Read, TooLong}
 use Rattle.surf_cli.specs.declared.refusals.Refusal.{Refusal}
-use Rattle.surf_cli.specs.declared.refusals.Refusal.TheVariants.{Description, NotBuilt, Trace}
+use Rattle.surf_cli.specs.declared.refusals.Refusal.TheVariants.{Description, NoDomain, NotBuilt, Trace}
 use Rattle.surf_cli.specs.Files.{NamedFile, limit_of}
 use Rattle.surf_cli.specs.Contents.{Contents, nothing, with_content}
-use Rattle.surf_cli.specs.Jobs.{Job, Schedule, Check, Routes, Simulate, Upgrade, Command}
+use Rattle.surf_cli.specs.Jobs.{Job, Schedule, Check, Routes, Simulate, Report, Upgrade, Command}
 use Rattle.surf_cli.specs.Schedule.{schedule_text}
 use Rattle.surf_cli.specs.Accepted.{accepted_text}
 use Rattle.surf_cli.specs.Routes.{routes_text}
-use Rattle.surf_cli.specs.Simulate.{is_built, reports_text}
+use Rattle.surf_cli.specs.Simulate.{is_built, reports_text, report_text}
 
 -- what is to be written: these bytes, or a document of version 2 that says this plan
 pub data Work : Type 0 where
   Exactly : (bytes : List ℕ) → Work
   UpgradeOf : (plan : Plan) → Work
-
--- these bytes are right for what is to be written
-abbrev pub IsRight : Work → List ℕ → Type 0
-IsRight (Exactly right) bytes = bytes ≡ right
-IsRight (UpgradeOf plan) bytes = table_of bytes ≡ Some (document (upgrade_of plan))
 
 -- what a command comes to: a text is written, or the run ends so
 pub data Outcome : Type 0 where
@@ -71,6 +66,13 @@ judged_draft None (Some draft) = judged_plan (first_fault draft) (plan_of_draft 
 unfoldable pub judged : List ℕ → Judged
 judged bytes = judged_draft (table.first_fault bytes) (draft_of bytes)
 
+-- these bytes are right for what is to be written: an upgrade is the document of the plan's draft of version 2, and as a
+-- description it is accepted, with the same plan
+abbrev pub IsRight : Work → List ℕ → Type 0
+IsRight (Exactly right) bytes = bytes ≡ right
+IsRight (UpgradeOf plan) bytes = (table_of bytes ≡ Some (document (upgrade_of plan))) × (judged bytes ≡ Described plan)
+
+-- what a command goes on to with what a description says
 abbrev pub with_judged : Judged → (Plan → Outcome) → Outcome
 with_judged (Faulty fault) next = refuses (Description fault)
 with_judged (Described plan) next = next plan
@@ -78,6 +80,15 @@ with_judged (Described plan) next = next plan
 -- what a command goes on to with a description's plan
 abbrev pub with_plan : List ℕ → (Plan → Outcome) → Outcome
 with_plan bytes next = with_judged (judged bytes) next
+
+-- what a command goes on to with a domain that was found
+abbrev pub if_found : Option ℕ → (ℕ → Outcome) → Outcome
+if_found None next = refuses NoDomain
+if_found (Some d) next = next d
+
+-- what a command goes on to with the domain of a name
+abbrev pub with_domain : Plan → List ℕ → (ℕ → Outcome) → Outcome
+with_domain p name next = if_found (domain_named p name) next
 
 -- what a simulation goes on to: not all networks are built yet
 abbrev pub with_built : Plan → Outcome → Outcome
@@ -98,6 +109,8 @@ over Check held = with_plan held.description (λ p. Does (Exactly (accepted_text
 over Routes held = with_plan held.description (λ p. Does (Exactly (routes_text p)))
 over (Simulate cycles) held =
     with_plan held.description (λ p. with_built p (with_trace p held.trace (λ es. Does (Exactly (reports_text p es cycles)))))
+over (Report cycles name) held =
+    with_plan held.description (λ p. with_domain p name (λ d. with_built p (with_trace p held.trace (λ es. Does (Exactly (report_text p es cycles d))))))
 over Upgrade held = with_plan held.description (λ p. Does (UpgradeOf p))
 
 -- what a command goes on to with a file, which is absent or holds some bytes

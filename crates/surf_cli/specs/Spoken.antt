@@ -9,7 +9,7 @@ use Rattle.surf_cli.specs.declared.commands.Job.TheVariants as code
 use Rattle.surf_cli.specs.declared.commands.Command as code_command
 use Rattle.surf_cli.specs.Files.{NamedFile}
 use Rattle.surf_cli.specs.Contents.{Contents}
-use Rattle.surf_cli.specs.Jobs.{Job, Schedule, Check, Routes, Simulate, Upgrade, Command}
+use Rattle.surf_cli.specs.Jobs.{Job, Schedule, Check, Routes, Simulate, Report, Upgrade, Command}
 
 -- a named file
 abbrev pub named : code_file.NamedFile → NamedFile
@@ -30,6 +30,7 @@ job (code.Schedule cycles) = Schedule cycles
 job code.Check = Check
 job code.Routes = Routes
 job (code.Simulate cycles) = Simulate cycles
+job (code.Report cycles domain) = Report cycles domain.now
 job code.Upgrade = Upgrade
 
 -- a command

@@ -3,7 +3,7 @@
 ghost use Rattle.std.specs.Prelude.{◌≡◌, [], IfOk};
 
 use crate::accepted::put_accepted;
-use crate::reports::Reports;
+use crate::reports::{OneReport, Reports};
 use crate::routes::put_routes;
 use crate::turning::OwnerTable;
 use noc_model::Plan;
@@ -21,6 +21,8 @@ pub(crate) enum Text {
     Routes(Plan),
     /// The reports of all domains.
     Reports(Reports),
+    /// The report of one domain.
+    Report(OneReport),
     /// These bytes.
     Bytes(Vec<u8>),
 }
@@ -39,6 +41,7 @@ impl Text {
             Text::Accepted(plan) => put_accepted(block, out, &plan),
             Text::Routes(plan) => put_routes(block, out, &plan),
             Text::Reports(reports) => reports.put(block, out),
+            Text::Report(report) => report.put(block, out),
             Text::Bytes(bytes) => block.put(out, bytes.as_slice()),
         }
     }

@@ -8,6 +8,7 @@ ghost use Rattle.surf_cli.specs.Answers.{text_of, Makes, IsRefused};
 ghost use Rattle.surf_cli.specs.Spoken.{command, job, gathered};
 
 mod check;
+mod report;
 mod routes;
 mod schedule;
 mod simulate;
@@ -21,7 +22,7 @@ use std::alloc::Global;
 
 /// What is to be done with what the files of a command hold.
 #[derive(Clone, Copy)]
-pub(crate) enum Job {
+pub(crate) enum Job<'a> {
     /// The owner table of so many cycles.
     Schedule {
         /// The number of cycles.
@@ -36,6 +37,13 @@ pub(crate) enum Job {
         /// The number of cycles.
         cycles: u32,
     },
+    /// The report of one domain.
+    Report {
+        /// The number of cycles.
+        cycles: u32,
+        /// The domain's name.
+        domain: &'a str,
+    },
     /// A description of version 2 with the same plan.
     Upgrade,
 }
@@ -46,7 +54,7 @@ pub(crate) struct Command<'a> {
     /// The files that it names.
     pub(crate) files: NamedFiles<'a>,
     /// What is done with what they hold.
-    pub(crate) job: Job,
+    pub(crate) job: Job<'a>,
 }
 
 /// The command that the words are; nothing where they are no row of the table of commands.
@@ -63,31 +71,33 @@ pub(crate) fn command_of(words: &[String]) -> Option<Command<'_>>
         "check" => check::words(args),
         "routes" => routes::words(args),
         "simulate" => simulate::words(args),
+        "report" => report::words(args),
         "upgrade" => upgrade::words(args),
         _ => None,
     }
 }
 
 /// The text that answers a job.
-fn text_for(alloc: Global, asked: Job, contents: Contents) -> Result<Text, End>
+fn text_for(alloc: Global, asked: Job<'_>, contents: Contents) -> Result<Text, End>
     requires few { HasFewCycles (job asked) }
-    ensures ok { IfOk result (λ text. Makes (over (job asked) (gathered contents)) (text_of text)) }
-    ensures err { IfErr result (λ end. IsRefused (over (job asked) (gathered contents)) end) }
+    ensures ok { IfOk result (λ text. Makes (over (job asked.entry) (gathered contents)) (text_of text)) }
+    ensures err { IfErr result (λ end. IsRefused (over (job asked.entry) (gathered contents)) end) }
 {
     match asked {
         Job::Schedule { cycles } => schedule::make(alloc, contents, cycles),
         Job::Check => check::make(alloc, contents),
         Job::Routes => routes::make(alloc, contents),
         Job::Simulate { cycles } => simulate::make(alloc, contents, cycles),
+        Job::Report { cycles, domain } => report::make(alloc, contents, cycles, domain),
         Job::Upgrade => upgrade::make(alloc, contents),
     }
 }
 
 /// The answer to a job, with all the memory that writing it takes.
-pub(crate) fn make(alloc: Global, asked: Job, contents: Contents) -> Result<Answer, End>
+pub(crate) fn make(alloc: Global, asked: Job<'_>, contents: Contents) -> Result<Answer, End>
     requires few { HasFewCycles (job asked) }
-    ensures ok { IfOk result (λ answer. Makes (over (job asked) (gathered contents)) (text_of answer.text)) }
-    ensures err { IfErr result (λ end. IsRefused (over (job asked) (gathered contents)) end) }
+    ensures ok { IfOk result (λ answer. Makes (over (job asked.entry) (gathered contents)) (text_of answer.text)) }
+    ensures err { IfErr result (λ end. IsRefused (over (job asked.entry) (gathered contents)) end) }
 {
     let text = text_for(alloc, asked, contents)?;
     let answer = Answer::new(alloc, text)?;

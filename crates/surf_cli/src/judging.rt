@@ -1,13 +1,13 @@
-//! What the files hold, judged: the description, whether its network is built, and the trace.
+//! What the files hold, judged: the description, its domain of a name, whether its network is built, and the trace.
 
-ghost use Rattle.std.specs.Prelude.{◌≡◌, ◌==◌, List, IfOk, IfErr, OnOk};
+ghost use Rattle.std.specs.Prelude.{◌≡◌, ◌==◌, ◌<◌, ℕ, List, length, IfOk, IfErr, OnOk};
 ghost use Rattle.std.specs.List.{list_all};
 ghost use Rattle.noc_model.specs.declared.plan.DomainPart.{DomainPart};
 ghost use Rattle.noc_model.specs.Plan.{Plan as PlanValue};
 ghost use Rattle.trace_read.specs.declared.entries.Entry.{Entry};
 ghost use Rattle.cycle_sim.specs.Net.{IsBuilt};
 ghost use Rattle.surf_cli.specs.Simulate.{is_built};
-ghost use Rattle.surf_cli.specs.Meaning.{Outcome, with_plan, with_built, with_trace};
+ghost use Rattle.surf_cli.specs.Meaning.{Outcome, with_plan, with_domain, with_built, with_trace};
 ghost use Rattle.surf_cli.specs.Answers.{IsRefused, EndsFor};
 
 use crate::refusals::Refusal;
@@ -39,6 +39,19 @@ pub(crate) fn judge(alloc: Global, bytes: &[u8]) -> Result<Plan, End>
     match desc_check::check(alloc, draft) {
         Ok(plan) => Ok(plan),
         Err(fault) => Err(end_of(fault)),
+    }
+}
+
+/// The number of the domain of this name.
+pub(crate) fn judge_domain(plan: &Plan, name: &[u8]) -> Result<u32, End>
+    ensures below { IfOk result (λ d. d < length plan.now.domains) }
+    ensures ok { IfOk result (λ d. (next : ℕ → Outcome) → with_domain plan.now name.now next ≡ next d) }
+    ensures err { IfErr result (λ end. (next : ℕ → Outcome) → IsRefused (with_domain plan.now name.now next) end) }
+{
+    plan.known();
+    match plan.find(name) {
+        Some(d) => Ok(d),
+        None => Err(End::Refused(Refusal::NoDomain)),
     }
 }
 

@@ -13,6 +13,8 @@ use trace_read::TraceFault;
 pub(crate) enum Refusal {
     /// The description's first fault.
     Description(DescFault),
+    /// The description has no domain of the name.
+    NoDomain,
     /// The network of the description is not simulated yet.
     NotBuilt,
     /// The trace's first fault.
@@ -26,6 +28,7 @@ impl Refusal {
     {
         match self {
             Refusal::Description(_) | Refusal::NotBuilt => Status::Description,
+            Refusal::NoDomain => Status::Domain,
             Refusal::Trace(_) => Status::Trace,
         }
     }
@@ -37,6 +40,7 @@ impl Refusal {
     {
         match self {
             Refusal::Description(fault) => print_fault(fault, err),
+            Refusal::NoDomain => say(err, b"surf: no such domain\n"),
             Refusal::NotBuilt => say(err, b"surf: description not built\n"),
             Refusal::Trace(fault) => print_trace_fault(fault, err),
         }

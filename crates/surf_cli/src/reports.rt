@@ -1,10 +1,11 @@
 //! The reports of a run.
 
-ghost use Rattle.std.specs.Prelude.{◌≡◌, ◌≤◌, IfOk};
+ghost use Rattle.std.specs.Prelude.{◌≡◌, ◌<◌, ◌≤◌, length, IfOk};
 ghost use Rattle.surf_base.specs.Block.{Writes, stream};
 ghost use Rattle.cycle_sim.specs.Net.{IsBuilt};
 ghost use Rattle.noc_model.specs.Limits.{most_cycles};
-ghost use Rattle.surf_cli.specs.Simulate.{AreAlone, reports_of, events_of, reports_text};
+ghost use Rattle.noc_model.specs.Report.{report};
+ghost use Rattle.surf_cli.specs.Simulate.{AreAlone, reports_of, events_of, reports_text, report_text};
 
 use cycle_sim::{Net, run};
 use domain_report::put_report;
@@ -59,5 +60,47 @@ impl Reports {
             put_report(block, out, &self.plan, &self.events, d)?;
         }
         Ok(())
+    }
+}
+
+/// The report of one domain that is not written yet.
+#[derive(Drop)]
+pub(crate) struct OneReport {
+    plan: Plan,
+    events: Events,
+    domain: u32,
+    ghost there: { domain < length plan.domains },
+}
+
+impl OneReport {
+    /// The report of a run that the trace drives.
+    pub(crate) fn simulated(
+        alloc: Global,
+        plan: Plan,
+        trace: &Trace,
+        cycles: u32,
+        domain: u32,
+    ) -> Result<OneReport, AllocError>
+        requires built { IsBuilt plan }
+        requires few { cycles ≤ most_cycles }
+        requires there { domain < length plan.domains }
+        ensures { IfOk result (λ one. report one.plan one.domain (events_of one.events one.domain)
+            ≡ report_text plan trace.now cycles domain) }
+    {
+        let events = simulate(alloc, &plan, trace, cycles)?;
+        Ok(OneReport {
+            plan,
+            events,
+            domain,
+        })
+    }
+
+    /// Puts the report.
+    pub(crate) fn put<O: Sink>(&self, block: &mut Block, out: &mut O) -> Result<(), Failed>
+        ensures { Writes result (stream (O.written out.old) block.old (O.faults out.old))
+            (stream (O.written out.new) block.new (O.faults out.new))
+            (report self.now.plan self.now.domain (events_of self.now.events self.now.domain)) }
+    {
+        put_report(block, out, &self.plan, &self.events, self.domain)
     }
 }

@@ -26,6 +26,8 @@ pub enum Status {
     Memory,
     /// A file is longer than its limit.
     TooLong,
+    /// The description has no domain of the name.
+    Domain,
 }
 
 impl Status {
@@ -42,6 +44,7 @@ impl Status {
             Status::Write => 7,
             Status::Memory => 8,
             Status::TooLong => 9,
+            Status::Domain => 10,
         }
     }
 }

@@ -5,7 +5,9 @@ use std::test::Fail;
 use surf_base::{MemFiles, MemSink};
 
 const TWO_TILES: &str = "version = 1\nshape = \"mesh\"\ndims = [2]\nstages = 2\nbuffer = 2\n\
-domain = [{name = \"a\", channels = 1}, {name = \"b\", channels = 1}]\n";
+domain = [{name = \"a\", channels = 1}, {name = \"b\", channels = 1}]\n\
+tile = [{at = 0, domains = [\"a\", \"b\"]}, {at = 1, domains = [\"a\", \"b\"]}]\n\
+range = [{tile = 0, first = 0x0, last = 0xff}, {tile = 1, first = 0x100, last = 0x1ff}]\n";
 
 const OVERLAPPING: &str = "version = 1\nshape = \"mesh\"\ndims = [2]\nstages = 1\nbuffer = 2\n\
 domain = [{name = \"a\", channels = 1}, {name = \"b\", channels = 1}]\n\
@@ -52,6 +54,27 @@ const ONE_PLACE: &str = "version = 1\nshape = \"mesh\"\ndims = [1]\nstages = 1\n
 domain = [{name = \"a\", channels = 1}]\n\
 tile = [{at = 0, domains = [\"a\"]}]\n\
 range = [{tile = 0, first = 0x10, last = 0x1f}]\n";
+
+const SHARED_CORNERS: &str =
+    "version = 1\nshape = \"mesh\"\ndims = [4, 4]\nstages = 1\nbuffer = 4\n\
+domain = [{name = \"d0\", channels = 1}, {name = \"d1\", channels = 1},\n\
+{name = \"d2\", channels = 1}, {name = \"d3\", channels = 1}]\n\
+tile = [{at = 0, domains = [\"d0\", \"d1\", \"d2\", \"d3\"]}, {at = 1, domains = [\"d1\"]},\n\
+{at = 2, domains = [\"d2\"]}, {at = 3, domains = [\"d0\", \"d1\", \"d2\", \"d3\"]},\n\
+{at = 4, domains = [\"d0\"]}, {at = 5, domains = [\"d1\"]},\n\
+{at = 6, domains = [\"d2\"]}, {at = 7, domains = [\"d3\"]},\n\
+{at = 8, domains = [\"d0\"]}, {at = 9, domains = [\"d1\"]},\n\
+{at = 10, domains = [\"d2\"]}, {at = 11, domains = [\"d3\"]},\n\
+{at = 12, domains = [\"d0\", \"d1\", \"d2\", \"d3\"]}, {at = 13, domains = [\"d1\"]},\n\
+{at = 14, domains = [\"d2\"]}, {at = 15, domains = [\"d0\", \"d1\", \"d2\", \"d3\"]}]\n\
+range = [{tile = 0, first = 0x0, last = 0xfff}, {tile = 1, first = 0x1000, last = 0x1fff},\n\
+{tile = 2, first = 0x2000, last = 0x2fff}, {tile = 3, first = 0x3000, last = 0x3fff},\n\
+{tile = 4, first = 0x4000, last = 0x4fff}, {tile = 5, first = 0x5000, last = 0x5fff},\n\
+{tile = 6, first = 0x6000, last = 0x6fff}, {tile = 7, first = 0x7000, last = 0x7fff},\n\
+{tile = 8, first = 0x8000, last = 0x8fff}, {tile = 9, first = 0x9000, last = 0x9fff},\n\
+{tile = 10, first = 0xa000, last = 0xafff}, {tile = 11, first = 0xb000, last = 0xbfff},\n\
+{tile = 12, first = 0xc000, last = 0xcfff}, {tile = 13, first = 0xd000, last = 0xdfff},\n\
+{tile = 14, first = 0xe000, last = 0xefff}, {tile = 15, first = 0xf000, last = 0xffff}]\n";
 
 /// Runs the words over a description `d` and a trace `t`, and answers the status and what is on the output and the
 /// error stream.
@@ -129,6 +152,13 @@ fn each_command_gives_its_status_and_bytes(rt: HostRuntime) -> Result<(), Fail> 
             Some(CUBE),
             Status::Good,
             "accepted tiles 8 domains 1 places 112 hop 4\n",
+            "",
+        ),
+        (
+            "check d",
+            Some(SHARED_CORNERS),
+            Status::Good,
+            "accepted tiles 16 domains 4 places 1280 hop 4\n",
             "",
         ),
         (
@@ -232,13 +262,18 @@ fn routes_take_the_shorter_way_round(rt: HostRuntime) -> Result<(), Fail> {
 
 #[test]
 fn an_upgraded_description_says_the_same_plan(rt: HostRuntime) -> Result<(), Fail> {
-    let (status, text, err) = run(&rt, "upgrade d", Some(TWO_TILES.as_bytes()), None, &[], &[])?;
+    let content = Some(TWO_TILES.as_bytes());
+    let (status, text, err) = run(&rt, "upgrade d", content, None, &[], &[])?;
     assert!(rt; status == Status::Good);
     assert_eq!(rt; err.as_str(), "");
-    let content = Some(text.as_bytes());
-    let (_, table, _) = run(&rt, "schedule d 2", content, None, &[], &[])?;
-    assert_eq!(rt; table.as_str(), "0 0 1 a\n0 1 2 b\n1 0 1 b\n1 1 2 a\n");
-    let (_, again, _) = run(&rt, "upgrade d", content, None, &[], &[])?;
+    let upgraded = Some(text.as_bytes());
+    for words in ["check d", "routes d", "schedule d 2"] {
+        let (_, before, _) = run(&rt, words, content, None, &[], &[])?;
+        let (status, after, _) = run(&rt, words, upgraded, None, &[], &[])?;
+        assert!(rt; status == Status::Good);
+        assert_eq!(rt; after.as_str(), before.as_str());
+    }
+    let (_, again, _) = run(&rt, "upgrade d", upgraded, None, &[], &[])?;
     assert_eq!(rt; again.as_str(), text.as_str());
     Ok(())
 }
@@ -273,6 +308,7 @@ fn statuses_have_their_numbers(rt: HostRuntime) {
         (Status::Write, 7),
         (Status::Memory, 8),
         (Status::TooLong, 9),
+        (Status::Domain, 10),
     ];
     for (status, number) in rows {
         assert_eq!(rt; status.number(), number);
@@ -307,6 +343,12 @@ fn one_tile_gives_its_reports(rt: HostRuntime) -> Result<(), Fail> {
 4 0 take 00000002\n5 0 wait 00000003\n6 0 wait 00000003\n7 0 wait 00000003\n8 0 wait 00000003\n\
 9 0 wait 00000003\n10 0 wait 00000003\n10 0 got 11 00000001\n11 0 take 00000003\n\
 11 0 got 11 00000002\n15 0 got 11 00000003\nend 3 9 0 3\n",
+        ),
+        (
+            "report d t 6 a",
+            ONE_TILE,
+            ONE_WORD,
+            "domain a\n0 0 take 0000002a\n4 0 got 11 0000002a\nend 1 0 0 1\n",
         ),
         (
             "simulate d t 4",
@@ -425,6 +467,41 @@ fn refused_simulations_say_why(rt: HostRuntime) -> Result<(), Fail> {
             "0 0 a send 10",
             Status::Trace,
             "surf: trace fault 6 line 1\n",
+        ),
+        (
+            "report d t 6 z",
+            ONE_TILE,
+            ONE_WORD,
+            Status::Domain,
+            "surf: no such domain\n",
+        ),
+        (
+            "report d t 6 z",
+            ONE_TILE,
+            "0 0 a send 10",
+            Status::Domain,
+            "surf: no such domain\n",
+        ),
+        (
+            "report d t 6 a",
+            ONE_TILE,
+            "0 0 a send 10",
+            Status::Trace,
+            "surf: trace fault 6 line 1\n",
+        ),
+        (
+            "report d t 6 z",
+            "",
+            ONE_WORD,
+            Status::Description,
+            "surf: description fault 3 0 0 0\n",
+        ),
+        (
+            "report d t 6",
+            ONE_TILE,
+            ONE_WORD,
+            Status::Usage,
+            "surf: usage\n",
         ),
     ];
     for (words, content, trace, status, line) in rows {

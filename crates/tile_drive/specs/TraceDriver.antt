@@ -15,7 +15,7 @@ abbrev pub due_words : ℕ → ℕ → List ℕ → List Due
 due_words cycle address [] = []
 due_words cycle address (word ∷ more) =
     record { cycle = cycle; offer = record { address = address; payload = word; last = length more == 0 } }
-        ∷ due_words cycle address more
+    ∷ due_words cycle address more
 
 -- the words of an entry
 abbrev pub due_of : Entry → List Due

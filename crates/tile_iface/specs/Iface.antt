@@ -1,8 +1,7 @@
 -- What an attachment keeps, and its part of the step of a tile.
-use Rattle.std.specs.Prelude.{◌≡◌, ◌×◌, ℕ, Bool, false, List, Option, None, if◌then◌else◌, option_map, slice_index_or}
+use Rattle.std.specs.Prelude.{◌≡◌, ℕ, Bool, false, List, Option, None, if◌then◌else◌, slice_index_or}
 use Rattle.noc_model.specs.declared.Flit.{Flit}
 use Rattle.noc_model.specs.declared.Offer.{Offer}
-use Rattle.noc_model.specs.declared.LinkFlit.{LinkFlit}
 use Rattle.noc_model.specs.declared.Packet.{Packet}
 use Rattle.noc_model.specs.declared.Packet.TheVariants.{Between}
 use Rattle.noc_model.specs.Plan.{Plan, channels}
@@ -20,8 +19,14 @@ pub record Attached : Type 0 where
 
 -- the start: nothing is on its way
 abbrev pub start_attached : Plan → ℕ → Attached
-start_attached p d = record { domain = d; channels = channels p d; packet = Between; current = 0; dropped = false;
-    ejected = None }
+start_attached p d = record {
+  domain = d;
+  channels = channels p d;
+  packet = Between;
+  current = 0;
+  dropped = false;
+  ejected = None;
+}
 
 -- the attachment is of a domain of this plan
 abbrev pub IsOf : Plan → Attached → Type 0

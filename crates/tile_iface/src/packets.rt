@@ -1,7 +1,7 @@
 //! What becomes of a word: the rules of packets.
 
-ghost use Rattle.std.specs.Prelude.{◌≡◌, ◌<◌};
-ghost use Rattle.noc_model.specs.Plan.{channels};
+ghost use Rattle.std.specs.Prelude.{◌≡◌, ◌<◌, ℕ};
+ghost use Rattle.noc_model.specs.Plan.{Plan, channels};
 ghost use Rattle.noc_model.specs.Step.{is_ready_packet, goes_to, entry, next_packet, is_dropped, next_current};
 ghost use Rattle.noc_model.specs.Events.{ejected_of};
 

@@ -48,7 +48,7 @@ abbrev pub entry_of : Plan → List (List ℕ) → Entry
 entry_of p fs =
     if is_send fs
     then Send (number_of (field fs 0)) (attach_named p (number_of (field fs 1)) (field fs 2)) (word_of (field fs 4))
-        (map word_of (drop 5 fs))
+    (map word_of (drop 5 fs))
     else Hold (number_of (field fs 0)) (attach_named p (number_of (field fs 1)) (field fs 2)) (number_of (field fs 4))
 
 -- the entry of a line, which a skipped line doesn't have

@@ -24,7 +24,7 @@ abbrev pub is_misspelled : List (List ℕ) → Bool
 is_misspelled fs =
     is_none (number (field fs 0))
     || (is_none (number (field fs 1))
-        || (if is_send fs then has_no_word (drop 4 fs) else is_none (number (field fs 4))))
+    || (if is_send fs then has_no_word (drop 4 fs) else is_none (number (field fs 4))))
 
 -- no tile has this number
 abbrev pub is_outside : Plan → ℕ → Bool
@@ -55,7 +55,7 @@ first_of (x ∷ xs) = if x.0 then Some x.1 else first_of xs
 abbrev pub place_faults : Plan → ℕ → ℕ → List ℕ → List (Bool × TraceFault) → List (Bool × TraceFault)
 place_faults p n tile name more =
     (is_outside p tile, TileRange n) ∷ (is_unknown p name, DomainUnknown n) ∷ (is_not_hosted p tile name, NotHosted n)
-        ∷ more
+    ∷ more
 
 -- the faults of the fields of a line that is formed
 abbrev pub field_faults : Plan → ℕ → List (List ℕ) → List (Bool × TraceFault)

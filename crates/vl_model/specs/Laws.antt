@@ -17,14 +17,14 @@ use Rattle.vl_model.specs.Settle.{settled, run}
 abbrev pub OneValuation : Type 0
 OneValuation = (d : Design) → IsSound d → (s : Nets) → AreSmallNets d s
     → IsRight d (settled d s) × SameState d s (settled d s)
-        × ((u : Nets) → IsRight d u → SameState d s u → SameNets d u (settled d s))
+    × ((u : Nets) → IsRight d u → SameState d s u → SameNets d u (settled d s))
 
 -- In a run of a design each instance runs as its leaf, with the joined nets at its ports
 abbrev pub InstanceRuns : Type 0
 InstanceRuns = (d : Design) (first : Name → Name → ℕ → ℕ) (inputs : ℕ → Name → ℕ) (values : ℕ → Nets) → IsSound d
     → IsRun d first inputs values
     → EachInstance d (λ l n joins. IsLeafRun l (λ t. (values t).inside n)
-        × ((t : ℕ) → AllByRecursion (Joined ((values t).inside n) (values t).top) joins))
+    × ((t : ℕ) → AllByRecursion (Joined ((values t).inside n) (values t).top) joins))
 
 -- What items give and keep holds of every leaf of a sound design that has them: in a right valuation each item of a
 -- leaf holds
@@ -41,7 +41,7 @@ PartsAlone = (w : Widths) (v : Values) (before items after : List Item) → AllH
 abbrev pub OneRun : Type 0
 OneRun = (d : Design) → IsSound d → (first : Name → Name → ℕ → ℕ) (inputs : ℕ → Name → ℕ) → Fit d first inputs
     → IsRun d first inputs (run d first inputs)
-        × ((values : ℕ → Nets) → IsRun d first inputs values → (t : ℕ) → SameNets d (values t) (run d first inputs t))
+    × ((values : ℕ → Nets) → IsRun d first inputs values → (t : ℕ) → SameNets d (values t) (run d first inputs t))
 
 -- no later leaf has the name
 abbrev pub NamesApart : List Leaf → Type 0
@@ -64,8 +64,8 @@ abbrev pub TidyMore : Type 0
 TidyMore = (l : Leaf) (is : List Item) → IsTidy l → list_all plain_item is ≡ true
     → first_fault_of early_rules (sites_behind [] (leaf_lines l) (leaf_lines l) (map item is)) ≡ None
     → ((n : Name) → drivers [] (leaf_lines l ++ map item is) n ≤ 1)
-        → AllByRecursion (λ (p : Port). is_through (leaf_lines l ++ map item is) (port p) ≡ false) l.ports
-        → IsTidy (with_items l is)
+    → AllByRecursion (λ (p : Port). is_through (leaf_lines l ++ map item is) (port p) ≡ false) l.ports
+    → IsTidy (with_items l is)
 
 -- Induction over the nets of a cycle: what the top's inputs and all registers have, and assigns and joins hand on,
 -- all nets have. A law speaks of tests; the lemma that proves it, of any property
@@ -73,4 +73,4 @@ abbrev pub NetInduction : Type 0
 NetInduction = (d : Design) → IsSound d → (top : Name → Bool) (inside : Name → Name → Bool)
     → Handed d (λ n. top n ≡ true) (λ i n. inside i n ≡ true)
     → ((n : Name) → is_kind is_net (top_lines d.top) n ≡ true → top n ≡ true)
-        × EachInstance d (λ l i joins. (n : Name) → is_kind is_net (leaf_lines l) n ≡ true → inside i n ≡ true)
+    × EachInstance d (λ l i joins. (n : Name) → is_kind is_net (leaf_lines l) n ≡ true → inside i n ≡ true)

@@ -37,7 +37,7 @@ abbrev pub sites_behind : List Leaf → List Line → List Line → List Line �
 sites_behind leaves lines before [] = []
 sites_behind leaves lines before (x ∷ xs) =
     record { leaves = leaves; lines = lines; before = before; line = x }
-        ∷ sites_behind leaves lines (before ++ x ∷ []) xs
+    ∷ sites_behind leaves lines (before ++ x ∷ []) xs
 
 -- the lines of a module with what stands around them
 abbrev pub module_sites : List Leaf → List Line → List Site

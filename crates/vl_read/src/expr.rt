@@ -63,8 +63,7 @@ fn joined(alloc: Global, a: Expr, rest: Rest) -> Result<Expr, AllocError>
     }
 }
 
-#[tactic(auto, unfolding(vl_tree::specs::Reading::both, vl_tree::specs::Reading::made, vl_tree::specs::Reading::either,
-    vl_tree::specs::Reading::numbers_at))]
+#[tactic(auto, unfolding(vl_tree::specs::Reading::both, vl_tree::specs::Reading::made, vl_tree::specs::Reading::either, vl_tree::specs::Reading::numbers_at))]
 fn numbers<'a>(ts: Ahead<'a>) -> Result<(Pick, Ahead<'a>), ReadError>
     ensures { Gives (λ x. (pick_of x.0, placed x.1)) result (reading.numbers_at (placed ts.entry)) }
 {
@@ -91,8 +90,7 @@ fn expr<'a>(alloc: Global, ts: Ahead<'a>, depth: u32) -> Result<(Expr, Ahead<'a>
 }
 
 #[cycle(expr)]
-#[tactic(auto, unfolding(vl_tree::specs::Reading::level_at, vl_tree::specs::Reading::either,
-    vl_tree::specs::Reading::made))]
+#[tactic(auto, unfolding(vl_tree::specs::Reading::level_at, vl_tree::specs::Reading::either, vl_tree::specs::Reading::made))]
 fn level<'a>(alloc: Global, ts: Ahead<'a>, depth: u32) -> Result<(Expr, Ahead<'a>), ReadError>
     ensures { Gives (λ x. (read x.0, placed x.1)) result
         (reading.level_at depth (reading.expr_at depth) (placed ts.entry)) }
@@ -119,8 +117,7 @@ fn named<'a>(alloc: Global, ts: Ahead<'a>, depth: u32) -> Result<(Expr, Ahead<'a
 }
 
 #[cycle(expr)]
-#[tactic(auto, unfolding(vl_tree::specs::Reading::pick_at, vl_tree::specs::Reading::either,
-    vl_tree::specs::Reading::both, vl_tree::specs::Reading::made, vl_tree::specs::Reading::nothing))]
+#[tactic(auto, unfolding(vl_tree::specs::Reading::pick_at, vl_tree::specs::Reading::either, vl_tree::specs::Reading::both, vl_tree::specs::Reading::made, vl_tree::specs::Reading::nothing))]
 fn behind_name<'a>(alloc: Global, ts: Ahead<'a>, depth: u32) -> Result<(Pick, Ahead<'a>), ReadError>
     ensures { Gives (λ x. (pick_of x.0, placed x.1)) result
         (reading.pick_at depth (reading.expr_at depth) (placed ts.entry)) }
@@ -133,8 +130,7 @@ fn behind_name<'a>(alloc: Global, ts: Ahead<'a>, depth: u32) -> Result<(Pick, Ah
 }
 
 #[cycle(expr)]
-#[tactic(auto, using(crate::proofs::Levels::deeper_none, crate::proofs::Levels::deeper_some),
-    unfolding(vl_tree::specs::Reading::either))]
+#[tactic(auto, using(crate::proofs::Levels::deeper_none, crate::proofs::Levels::deeper_some), unfolding(vl_tree::specs::Reading::either))]
 fn index<'a>(alloc: Global, ts: Ahead<'a>, depth: u32) -> Result<(Pick, Ahead<'a>), ReadError>
     ensures { Gives (λ x. (pick_of x.0, placed x.1)) result
         (picks.index_at depth (reading.expr_at depth) (placed ts.entry)) }
@@ -159,8 +155,7 @@ fn word<'a>(alloc: Global, ts: Ahead<'a>, depth: u32) -> Result<(Pick, Ahead<'a>
 }
 
 #[cycle(expr)]
-#[tactic(auto, using(crate::proofs::Levels::deeper_none, crate::proofs::Levels::deeper_some),
-    unfolding(vl_tree::specs::Reading::either))]
+#[tactic(auto, using(crate::proofs::Levels::deeper_none, crate::proofs::Levels::deeper_some), unfolding(vl_tree::specs::Reading::either))]
 fn deep<'a>(alloc: Global, ts: Ahead<'a>, depth: u32) -> Result<(Expr, Ahead<'a>), ReadError>
     ensures { Gives (λ x. (read x.0, placed x.1)) result
         (picks.deep_at depth (reading.expr_at depth) (placed ts.entry)) }
@@ -175,8 +170,7 @@ fn deep<'a>(alloc: Global, ts: Ahead<'a>, depth: u32) -> Result<(Expr, Ahead<'a>
 }
 
 #[cycle(expr)]
-#[tactic(auto, unfolding(vl_tree::specs::Reading::group_at, vl_tree::specs::Reading::both,
-    vl_tree::specs::Reading::made))]
+#[tactic(auto, unfolding(vl_tree::specs::Reading::group_at, vl_tree::specs::Reading::both, vl_tree::specs::Reading::made))]
 fn group<'a>(alloc: Global, ts: Ahead<'a>, depth: u32) -> Result<(Expr, Ahead<'a>), ReadError>
     ensures { Gives (λ x. (read x.0, placed x.1)) result (reading.group_at (reading.expr_at depth) (placed ts.entry)) }
 {
@@ -187,8 +181,7 @@ fn group<'a>(alloc: Global, ts: Ahead<'a>, depth: u32) -> Result<(Expr, Ahead<'a
 }
 
 #[cycle(expr)]
-#[tactic(auto, unfolding(vl_tree::specs::Reading::either, vl_tree::specs::Reading::both,
-    vl_tree::specs::Reading::made))]
+#[tactic(auto, unfolding(vl_tree::specs::Reading::either, vl_tree::specs::Reading::both, vl_tree::specs::Reading::made))]
 fn inside<'a>(alloc: Global, ts: Ahead<'a>, depth: u32) -> Result<(Expr, Ahead<'a>), ReadError>
     ensures { Gives (λ x. (read x.0, placed x.1)) result (picks.inside_at (reading.expr_at depth) (placed ts.entry)) }
 {
@@ -203,8 +196,7 @@ fn inside<'a>(alloc: Global, ts: Ahead<'a>, depth: u32) -> Result<(Expr, Ahead<'
 }
 
 #[cycle(expr)]
-#[tactic(auto, unfolding(vl_tree::specs::Reading::rest_at, vl_tree::specs::Reading::either,
-    vl_tree::specs::Reading::both, vl_tree::specs::Reading::made))]
+#[tactic(auto, unfolding(vl_tree::specs::Reading::rest_at, vl_tree::specs::Reading::either, vl_tree::specs::Reading::both, vl_tree::specs::Reading::made))]
 fn behind_first<'a>(
     alloc: Global,
     ts: Ahead<'a>,
@@ -226,8 +218,7 @@ fn behind_first<'a>(
 }
 
 #[cycle(expr)]
-#[tactic(auto, using(crate::proofs::Levels::cat_done),
-    unfolding(vl_tree::specs::Reading::cat_at, vl_tree::specs::Reading::both, vl_tree::specs::Reading::made))]
+#[tactic(auto, using(crate::proofs::Levels::cat_done), unfolding(vl_tree::specs::Reading::cat_at, vl_tree::specs::Reading::both, vl_tree::specs::Reading::made))]
 fn cat<'a>(alloc: Global, ts: Ahead<'a>, depth: u32) -> Result<(Expr, Ahead<'a>), ReadError>
     ensures { Gives (λ x. (read x.0, placed x.1)) result (reading.cat_at (reading.expr_at depth) (placed ts.entry)) }
 {

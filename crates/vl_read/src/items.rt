@@ -12,8 +12,7 @@ use std::alloc::Global;
 use vl_tree::{LeafItem, Name};
 
 /// The high end of a range that ends at 0.
-#[tactic(auto, unfolding(vl_tree::specs::Reading::both, vl_tree::specs::Reading::made,
-    vl_tree::specs::Reading::range_at))]
+#[tactic(auto, unfolding(vl_tree::specs::Reading::both, vl_tree::specs::Reading::made, vl_tree::specs::Reading::range_at))]
 pub fn range<'a>(ts: Ahead<'a>) -> Result<(u32, Ahead<'a>), ReadError>
     ensures { Gives (λ x. (x.0, placed x.1)) result (reading.range_at (placed ts.entry)) }
 {
@@ -26,8 +25,7 @@ pub fn range<'a>(ts: Ahead<'a>) -> Result<(u32, Ahead<'a>), ReadError>
 }
 
 /// A wire, by its high end and its name.
-#[tactic(auto, unfolding(vl_tree::specs::Reading::both, vl_tree::specs::Reading::made,
-    vl_tree::specs::Reading::wire_at))]
+#[tactic(auto, unfolding(vl_tree::specs::Reading::both, vl_tree::specs::Reading::made, vl_tree::specs::Reading::wire_at))]
 pub fn wire<'a>(alloc: Global, ts: Ahead<'a>) -> Result<((u32, Name), Ahead<'a>), ReadError>
     ensures { Gives (λ x. (x.0, placed x.1)) result (reading.wire_at (placed ts.entry)) }
 {
@@ -38,8 +36,7 @@ pub fn wire<'a>(alloc: Global, ts: Ahead<'a>) -> Result<((u32, Name), Ahead<'a>)
     Ok(((high, name), ts))
 }
 
-#[tactic(auto, unfolding(vl_tree::specs::Reading::both, vl_tree::specs::Reading::made, vl_tree::specs::Reading::either,
-    vl_tree::specs::Reading::reg_at))]
+#[tactic(auto, unfolding(vl_tree::specs::Reading::both, vl_tree::specs::Reading::made, vl_tree::specs::Reading::either, vl_tree::specs::Reading::reg_at))]
 fn reg<'a>(alloc: Global, ts: Ahead<'a>) -> Result<(LeafItem, Ahead<'a>), ReadError>
     ensures { Gives (λ x. (read_item x.0, placed x.1)) result (reading.reg_at (placed ts.entry)) }
 {
@@ -58,8 +55,7 @@ fn reg<'a>(alloc: Global, ts: Ahead<'a>) -> Result<(LeafItem, Ahead<'a>), ReadEr
     Ok((LeafItem::Mem { high, name, last }, ts))
 }
 
-#[tactic(auto, unfolding(vl_tree::specs::Reading::both, vl_tree::specs::Reading::made,
-    vl_tree::specs::Reading::assign_at))]
+#[tactic(auto, unfolding(vl_tree::specs::Reading::both, vl_tree::specs::Reading::made, vl_tree::specs::Reading::assign_at))]
 fn assign<'a>(alloc: Global, ts: Ahead<'a>) -> Result<(LeafItem, Ahead<'a>), ReadError>
     ensures { Gives (λ x. (read_item x.0, placed x.1)) result (reading.assign_at (placed ts.entry)) }
 {
@@ -71,8 +67,7 @@ fn assign<'a>(alloc: Global, ts: Ahead<'a>) -> Result<(LeafItem, Ahead<'a>), Rea
     Ok((LeafItem::Assign { name, value }, ts))
 }
 
-#[tactic(auto, unfolding(vl_tree::specs::Reading::both, vl_tree::specs::Reading::made,
-    vl_tree::specs::Reading::clocked_at))]
+#[tactic(auto, unfolding(vl_tree::specs::Reading::both, vl_tree::specs::Reading::made, vl_tree::specs::Reading::clocked_at))]
 fn clocked<'a>(alloc: Global, ts: Ahead<'a>) -> Result<(LeafItem, Ahead<'a>), ReadError>
     ensures { Gives (λ x. (read_item x.0, placed x.1)) result (reading.clocked_at (placed ts.entry)) }
 {
@@ -88,8 +83,7 @@ fn clocked<'a>(alloc: Global, ts: Ahead<'a>) -> Result<(LeafItem, Ahead<'a>), Re
     Ok((LeafItem::Clocked { name, reset, value }, ts))
 }
 
-#[tactic(auto, unfolding(vl_tree::specs::Reading::both, vl_tree::specs::Reading::made,
-    vl_tree::specs::Reading::store_at))]
+#[tactic(auto, unfolding(vl_tree::specs::Reading::both, vl_tree::specs::Reading::made, vl_tree::specs::Reading::store_at))]
 fn store<'a>(alloc: Global, ts: Ahead<'a>) -> Result<(LeafItem, Ahead<'a>), ReadError>
     ensures { Gives (λ x. (read_item x.0, placed x.1)) result (reading.store_at (placed ts.entry)) }
 {
@@ -112,8 +106,7 @@ fn store<'a>(alloc: Global, ts: Ahead<'a>) -> Result<(LeafItem, Ahead<'a>), Read
     ))
 }
 
-#[tactic(auto, unfolding(vl_tree::specs::Reading::both, vl_tree::specs::Reading::made, vl_tree::specs::Reading::either,
-    vl_tree::specs::Reading::always_at))]
+#[tactic(auto, unfolding(vl_tree::specs::Reading::both, vl_tree::specs::Reading::made, vl_tree::specs::Reading::either, vl_tree::specs::Reading::always_at))]
 fn always<'a>(alloc: Global, ts: Ahead<'a>) -> Result<(LeafItem, Ahead<'a>), ReadError>
     ensures { Gives (λ x. (read_item x.0, placed x.1)) result (reading.always_at (placed ts.entry)) }
 {
@@ -125,8 +118,7 @@ fn always<'a>(alloc: Global, ts: Ahead<'a>) -> Result<(LeafItem, Ahead<'a>), Rea
 }
 
 /// An item of a leaf.
-#[tactic(auto, unfolding(vl_tree::specs::Reading::made, vl_tree::specs::Reading::either,
-    vl_tree::specs::Reading::item_at))]
+#[tactic(auto, unfolding(vl_tree::specs::Reading::made, vl_tree::specs::Reading::either, vl_tree::specs::Reading::item_at))]
 pub fn item<'a>(alloc: Global, ts: Ahead<'a>) -> Result<(LeafItem, Ahead<'a>), ReadError>
     ensures { Gives (λ x. (read_item x.0, placed x.1)) result (reading.item_at (placed ts.entry)) }
 {

@@ -15,8 +15,7 @@ use vl_tree::{
     Design, Join, Joins, Leaf, LeafItems, Leaves, Name, Port, Ports, Top, TopItem, TopItems,
 };
 
-#[tactic(auto, unfolding(vl_tree::specs::Reading::both, vl_tree::specs::Reading::made,
-    vl_tree::specs::Reading::port_at))]
+#[tactic(auto, unfolding(vl_tree::specs::Reading::both, vl_tree::specs::Reading::made, vl_tree::specs::Reading::port_at))]
 fn one_port<'a>(alloc: Global, ts: Ahead<'a>) -> Result<(Port, Ahead<'a>), ReadError>
     ensures { Gives (λ x. (x.0, placed x.1)) result (reading.port_at (placed ts.entry)) }
 {
@@ -43,8 +42,7 @@ fn port_list<'a>(alloc: Global, ts: Ahead<'a>) -> Result<(Ports, Ahead<'a>), Rea
     Ok((ports, ts))
 }
 
-#[tactic(auto, unfolding(vl_tree::specs::Reading::both, vl_tree::specs::Reading::made,
-    vl_tree::specs::Reading::head_at))]
+#[tactic(auto, unfolding(vl_tree::specs::Reading::both, vl_tree::specs::Reading::made, vl_tree::specs::Reading::head_at))]
 fn head<'a>(alloc: Global, ts: Ahead<'a>) -> Result<(Ports, Ahead<'a>), ReadError>
     ensures { Gives (λ x. (x.0, placed x.1)) result (reading.head_at (placed ts.entry)) }
 {
@@ -68,8 +66,7 @@ fn item_list<'a>(alloc: Global, ts: Ahead<'a>) -> Result<(LeafItems, Ahead<'a>),
     Ok((items, ts))
 }
 
-#[tactic(auto, unfolding(vl_tree::specs::Reading::both, vl_tree::specs::Reading::made,
-    vl_tree::specs::Reading::leaf_at))]
+#[tactic(auto, unfolding(vl_tree::specs::Reading::both, vl_tree::specs::Reading::made, vl_tree::specs::Reading::leaf_at))]
 fn one_leaf<'a>(alloc: Global, ts: Ahead<'a>) -> Result<(Leaf, Ahead<'a>), ReadError>
     ensures { Gives (λ x. (read_leaf x.0, placed x.1)) result (reading.leaf_at (placed ts.entry)) }
 {
@@ -79,8 +76,7 @@ fn one_leaf<'a>(alloc: Global, ts: Ahead<'a>) -> Result<(Leaf, Ahead<'a>), ReadE
     Ok((Leaf { name, ports, items }, ts))
 }
 
-#[tactic(auto, unfolding(vl_tree::specs::Reading::both, vl_tree::specs::Reading::made,
-    vl_tree::specs::Reading::join_at))]
+#[tactic(auto, unfolding(vl_tree::specs::Reading::both, vl_tree::specs::Reading::made, vl_tree::specs::Reading::join_at))]
 fn one_join<'a>(alloc: Global, ts: Ahead<'a>) -> Result<(Join, Ahead<'a>), ReadError>
     ensures { Gives (λ x. (x.0, placed x.1)) result (reading.join_at (placed ts.entry)) }
 {
@@ -116,8 +112,7 @@ fn instance_name<'a>(alloc: Global, ts: Ahead<'a>) -> Result<(Name, Ahead<'a>), 
     Ok((name, ts))
 }
 
-#[tactic(auto, unfolding(vl_tree::specs::Reading::both, vl_tree::specs::Reading::made,
-    vl_tree::specs::Reading::instance_at))]
+#[tactic(auto, unfolding(vl_tree::specs::Reading::both, vl_tree::specs::Reading::made, vl_tree::specs::Reading::instance_at))]
 fn instance<'a>(alloc: Global, ts: Ahead<'a>) -> Result<(TopItem, Ahead<'a>), ReadError>
     ensures { Gives (λ x. (x.0, placed x.1)) result (reading.instance_at (placed ts.entry)) }
 {
@@ -127,8 +122,7 @@ fn instance<'a>(alloc: Global, ts: Ahead<'a>) -> Result<(TopItem, Ahead<'a>), Re
     Ok((TopItem::Instance { leaf, name, joins }, ts))
 }
 
-#[tactic(auto, unfolding(vl_tree::specs::Reading::either, vl_tree::specs::Reading::made,
-    vl_tree::specs::Reading::top_item_at))]
+#[tactic(auto, unfolding(vl_tree::specs::Reading::either, vl_tree::specs::Reading::made, vl_tree::specs::Reading::top_item_at))]
 fn top_item<'a>(alloc: Global, ts: Ahead<'a>) -> Result<(TopItem, Ahead<'a>), ReadError>
     ensures { Gives (λ x. (x.0, placed x.1)) result (reading.top_item_at (placed ts.entry)) }
 {
@@ -154,8 +148,7 @@ fn top_list<'a>(alloc: Global, ts: Ahead<'a>) -> Result<(TopItems, Ahead<'a>), R
     Ok((items, ts))
 }
 
-#[tactic(auto, unfolding(vl_tree::specs::Reading::both, vl_tree::specs::Reading::made,
-    vl_tree::specs::Reading::top_at))]
+#[tactic(auto, unfolding(vl_tree::specs::Reading::both, vl_tree::specs::Reading::made, vl_tree::specs::Reading::top_at))]
 fn the_top<'a>(alloc: Global, ts: Ahead<'a>) -> Result<(Top, Ahead<'a>), ReadError>
     ensures { Gives (λ x. (x.0, placed x.1)) result (reading.top_at (placed ts.entry)) }
 {
@@ -180,8 +173,7 @@ fn body<'a>(alloc: Global, ts: Ahead<'a>) -> Result<((Leaves, Top), Ahead<'a>), 
     Ok(((leaves, top), ts))
 }
 
-#[tactic(auto, unfolding(vl_tree::specs::Reading::both, vl_tree::specs::Reading::made,
-    vl_tree::specs::Reading::modules_at))]
+#[tactic(auto, unfolding(vl_tree::specs::Reading::both, vl_tree::specs::Reading::made, vl_tree::specs::Reading::modules_at))]
 fn modules<'a>(alloc: Global, ts: Ahead<'a>) -> Result<(Design, Ahead<'a>), ReadError>
     ensures { Gives (λ x. (read_design x.0, placed x.1)) result (reading.modules_at (placed ts.entry)) }
 {
@@ -191,8 +183,7 @@ fn modules<'a>(alloc: Global, ts: Ahead<'a>) -> Result<(Design, Ahead<'a>), Read
 }
 
 /// The design of all the tokens.
-#[tactic(auto, using(crate::proofs::Ends::ended_none, crate::proofs::Ends::ended_some),
-    unfolding(vl_tree::specs::Reading::design_at))]
+#[tactic(auto, using(crate::proofs::Ends::ended_none, crate::proofs::Ends::ended_some), unfolding(vl_tree::specs::Reading::design_at))]
 pub fn design(alloc: Global, ts: Ahead<'_>) -> Result<Design, ReadError>
     ensures { Gives read_design result (reading.design_at (placed ts.entry)) }
 {

@@ -71,8 +71,7 @@ fn boxed(out: &mut Vec<u8>, e: &Boxed<Expr>) -> Result<(), AllocError>
 
 // The parts of a concatenation, in braces.
 #[cycle(written)]
-#[tactic(auto, using(crate::proofs::Tails::tail_begins, crate::proofs::Tails::tail_goes_on,
-    crate::proofs::Tails::tail_ends))]
+#[tactic(auto, using(crate::proofs::Tails::tail_begins, crate::proofs::Tails::tail_goes_on, crate::proofs::Tails::tail_ends))]
 fn exprs(out: &mut Vec<u8>, es: &[Expr]) -> Result<(), AllocError>
     ensures { OnOk result (out.new.items ≡ out.old.items ++ expr_text (cat (reads es.now))) }
 {

@@ -222,6 +222,8 @@ endmodule
         assert!(rt; design.plain());
         let text = write_design(rt.alloc(), &design)?;
         assert_eq!(rt; text.as_slice(), EACH_FORM);
+        let copied = write_design(rt.alloc(), &design.copy(rt.alloc())?)?;
+        assert_eq!(rt; copied.as_slice(), EACH_FORM);
         Ok(())
     }
 }

@@ -284,7 +284,7 @@ clocked_at = opened (codes "rst )") (made (λ x. clocked x.0.0 x.0.1 x.1.1) (bot
 unfoldable pub store_at : Reader Item
 store_at = made (λ x. store x.0 x.1.0 x.1.1.0 x.1.1.1) (both (closed whole_expr (codes ")")) (λ c.
     both (closed (one the_name) (codes "["))
-        (λ n. both (closed whole_expr (codes "] <=")) (λ i. closed whole_expr (codes ";")))))
+    (λ n. both (closed whole_expr (codes "] <=")) (λ i. closed whole_expr (codes ";")))))
 
 unfoldable pub always_at : Reader Item
 always_at = opened (codes "always @ ( posedge clk ) if (") (either (is_mark (codes "rst")) clocked_at store_at)
@@ -297,8 +297,11 @@ item_at =
 -- ---- modules
 
 unfoldable pub port_at : Reader Port
-port_at = opened (codes ",") (made (λ x. record { output = x.0; high = x.1.0;
-    name = x.1.1 }) (both (closed (one the_way) (codes "wire")) (λ o. both range_at (λ h. one the_name))))
+port_at = opened (codes ",") (made (λ x. record {
+  output = x.0;
+  high = x.1.0;
+  name = x.1.1;
+}) (both (closed (one the_way) (codes "wire")) (λ o. both range_at (λ h. one the_name))))
 
 unfoldable pub head_at : Reader (List Port)
 head_at = opened (codes "( input wire clk , input wire rst")
@@ -313,8 +316,10 @@ leaf_at = made (λ x. record { name = x.0; ports = x.1.0; items = x.1.1.0 })
     (both (one the_name) (λ n. both head_at (λ ports. until goes_on item_at (phrase (codes "endmodule module")))))
 
 unfoldable pub join_at : Reader Join
-join_at = opened (codes ", .") (made (λ x. record { port = x.0;
-    net = x.1 }) (both (closed (one the_name) (codes "(")) (λ p. closed (one the_name) (codes ")"))))
+join_at = opened (codes ", .") (made (λ x. record {
+  port = x.0;
+  net = x.1;
+}) (both (closed (one the_name) (codes "(")) (λ p. closed (one the_name) (codes ")"))))
 
 unfoldable pub instance_at : Reader TopItem
 instance_at = made (λ x. Instance x.0 x.1.0 x.1.1.0)
@@ -326,12 +331,16 @@ top_item_at = either (is_mark (codes "wire")) (made (λ x. Wire x.0 x.1) wire_at
 
 -- the top from its word noc on
 unfoldable pub top_at : Reader Top
-top_at = opened (codes "noc") (made (λ x. record { ports = x.0;
-    items = x.1.0 }) (both head_at (λ ports. until goes_on top_item_at (phrase (codes "endmodule")))))
+top_at = opened (codes "noc") (made (λ x. record {
+  ports = x.0;
+  items = x.1.0;
+}) (both head_at (λ ports. until goes_on top_item_at (phrase (codes "endmodule")))))
 
 unfoldable pub modules_at : Reader Design
-modules_at = opened (codes "module") (made (λ x. record { leaves = x.0;
-    top = x.1 }) (until is_name_token leaf_at top_at))
+modules_at = opened (codes "module") (made (λ x. record {
+  leaves = x.0;
+  top = x.1;
+}) (until is_name_token leaf_at top_at))
 
 abbrev pub ended_at : Design → List Placed → Result Design ℕ
 ended_at d [] = Ok d

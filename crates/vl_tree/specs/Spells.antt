@@ -57,7 +57,7 @@ IsNoText tokens = (d : Design) → IsPlain d → tokens ≡ design_tokens d → 
 abbrev pub GrammarPlace : List ℕ → ℕ → Type 0
 GrammarPlace bytes place =
     ((before : List Placed) × (t : Placed) × (after : List Placed) × (tokens_of bytes ≡ before ++ (t ∷ after))
-        × (place + t.left ≡ length bytes)
+    × (place + t.left ≡ length bytes)
     × Begins (text_of before) × (Begins (text_of before ++ (t.token ∷ [])) → ⊥))
     ⊎ ((place ≡ length bytes) × Begins (text_of (tokens_of bytes)) × IsNoText (text_of (tokens_of bytes)))
 

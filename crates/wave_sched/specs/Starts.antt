@@ -11,8 +11,10 @@ arriving_from p port (Some m) = slot_of p m (pos 0 -ℤ pos p.stages) (way_of (o
 
 -- the slots of the link that leaves tile n by the port, and of the one that arrives there
 abbrev pub port_slots : Plan → ℕ → ℕ → PortSlots
-port_slots p n port = record { leaving = slot_of p n (pos 0) (way_of port);
-    arriving = arriving_from p port (neighbour p n port) }
+port_slots p n port = record {
+  leaving = slot_of p n (pos 0) (way_of port);
+  arriving = arriving_from p port (neighbour p n port);
+}
 
 abbrev pub AreBelow : ℕ → PortSlots → Type 0
 AreBelow k s = (s.leaving < k) × (s.arriving < k)

@@ -1,8 +1,7 @@
-use Rattle.std.proofs.Common.{◌≡◌, rules, arith, pos, ap, ◌∙◌}
-use mir.Val.{SFits, to_z, of_z}
+use Rattle.std.proofs.Common.{rules, arith, ◌∙◌}
+use mir.Val.{SFits}
 use mir.Syntax.{w64}
 use Rattle.std.proofs.Math.Facts.{to_z-of_z}
-use Rattle.noc_desc.specs.declared.DraftDomain.{DraftDomain}
 use Rattle.desc_check.specs.Upgrade.{domain_draft}
 use Rattle.desc_check.proofs.Upgraded.{map-next, domain-is, nobody}
 use Rattle.desc_check.proofs.upgrade.domains_of.Goals as goal

@@ -1,8 +1,7 @@
-use Rattle.std.proofs.Common.{◌≡◌, rules, arith, ◌∙◌}
-use mir.Val.{SFits, to_z, of_z}
+use Rattle.std.proofs.Common.{rules, arith, ◌∙◌}
+use mir.Val.{SFits}
 use mir.Syntax.{w64}
 use Rattle.std.proofs.Math.Facts.{to_z-of_z}
-use Rattle.noc_desc.specs.declared.DraftRange.{DraftRange}
 use Rattle.desc_check.specs.Upgrade.{range_draft}
 use Rattle.desc_check.proofs.Upgraded.{map-next, range-is}
 use Rattle.desc_check.proofs.upgrade.ranges_of.Goals as goal

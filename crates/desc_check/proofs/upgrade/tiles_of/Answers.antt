@@ -1,9 +1,8 @@
-use Rattle.std.proofs.Common.{◌≡◌, rules, true, false, ℕ, not, ◌==◌, length, map, sym, ap, ◌∙◌, arith}
-use mir.Val.{SFits, to_z, of_z}
+use Rattle.std.proofs.Common.{rules, sym, ◌∙◌}
+use mir.Val.{SFits}
 use mir.Syntax.{w64}
 use Rattle.std.proofs.Math.Facts.{to_z-of_z}
-use Rattle.noc_desc.specs.declared.DraftTile.{DraftTile}
-use Rattle.desc_check.specs.Upgrade.{hosted_by, tile_of, hosts_some}
+use Rattle.desc_check.specs.Upgrade.{tile_of, hosts_some}
 use Rattle.desc_check.proofs.Upgraded.{kept-next, left-next, some-hosted, none-hosted}
 use Rattle.desc_check.proofs.upgrade.tiles_of.Goals as goal
 use Rattle.desc_check.proofs.upgrade.tiles_of.Goals.{then-len-ne0+in_ok-push, else-len-ne0}

@@ -1,0 +1,80 @@
+-- A domain that is looked for, and its report.
+use Rattle.std.proofs.Common.{◌≡◌, ◌<◌, ℕ, List, length, inr, refl, ◌∙◌, ap, sym, subst}
+use Rattle.std.specs.Prelude.{Option, Some, None, IfSome, IfNone, ◌≢◌}
+use Rattle.noc_model.specs.Plan.{Plan, name_of}
+use Rattle.noc_model.specs.Sound.{IsSound}
+use Rattle.trace_read.specs.declared.entries.Entry.{Entry}
+use Rattle.trace_read.specs.Entries.{domain_named}
+use Rattle.trace_read.proofs.Named.{domain_named-is}
+use Rattle.surf_cli.specs.declared.statuses.End.{End}
+use Rattle.surf_cli.specs.declared.statuses.End.TheVariants.{Refused}
+use Rattle.surf_cli.specs.declared.refusals.Refusal.TheVariants.{NoDomain}
+use Rattle.surf_cli.specs.Contents.{Contents}
+use Rattle.surf_cli.specs.Jobs.{Report}
+use Rattle.surf_cli.specs.Simulate.{report_text}
+use Rattle.surf_cli.specs.Meaning.{Outcome, Does, Exactly, if_found, with_plan, with_domain, with_built, with_trace, over}
+use Rattle.surf_cli.specs.Answers.{Makes, IsRefused}
+use Rattle.surf_cli.proofs.Makings.{Makes-exactly}
+
+-- the domain that was found
+pub domain-found : (p : Plan) (name : List ℕ) (r : Option ℕ) → IsSound p
+    → IfSome r (λ d. (d < length p.domains) × (name_of p d ≡ name))
+    → IfNone r ((d : ℕ) → d < length p.domains → name_of p d ≢ name)
+    → (next : ℕ → Outcome) → with_domain p name next ≡ if_found r next
+domain-found p name r sound found absent next = ap (λ x. if_found x next) (sym (domain_named-is p name r sound found absent))
+
+-- none was found
+pub domain-absent : (p : Plan) (name : List ℕ) (next : ℕ → Outcome) → with_domain p name next ≡ if_found None next
+    → IsRefused (with_domain p name next) (Refused NoDomain)
+domain-absent p name next e = inr record { refusal = NoDomain; of_contents = tt; is = refl; meant = e }
+
+-- what a report goes on to over a plan and a domain
+abbrev of_domain : Contents → ℕ → Plan → ℕ → Outcome
+of_domain held cycles p d = with_built p (with_trace p held.trace (λ es. Does (Exactly (report_text p es cycles d))))
+
+abbrev reported : Contents → ℕ → List ℕ → Plan → Outcome
+reported held cycles name p = with_domain p name (of_domain held cycles p)
+
+planned-is : (held : Contents) (cycles : ℕ) (name description : List ℕ) (p : Plan) → description ≡ held.description
+    → ((next : Plan → Outcome) → with_plan description next ≡ next p)
+    → over (Report cycles name) held ≡ with_domain p name (of_domain held cycles p)
+planned-is held cycles name description p e plan =
+    ap (λ bytes. with_plan bytes (reported held cycles name)) (sym e) ∙ plan (reported held cycles name)
+
+-- what is known of a report, once its domain was found
+pub record IsFound (held : Contents) (cycles : ℕ) (name description : List ℕ) (p : Plan) (d : ℕ) : Type 0 where
+  pub description_is : description ≡ held.description
+  pub plan : (next : Plan → Outcome) → with_plan description next ≡ next p
+  pub looked_for : List ℕ
+  pub name_is : looked_for ≡ name
+  pub domain : (next : ℕ → Outcome) → with_domain p looked_for next ≡ next d
+
+found-is : (held : Contents) (cycles : ℕ) (name description : List ℕ) (p : Plan) (d : ℕ)
+    → IsFound held cycles name description p d → over (Report cycles name) held ≡ of_domain held cycles p d
+found-is held cycles name description p d f =
+    planned-is held cycles name description p f.description_is f.plan
+    ∙ ap (λ n. with_domain p n (of_domain held cycles p)) (sym f.name_is) ∙ f.domain (of_domain held cycles p)
+
+traced-is : (held : Contents) (cycles : ℕ) (name description trace : List ℕ) (p : Plan) (d : ℕ)
+    → IsFound held cycles name description p d → trace ≡ held.trace → ((next : Outcome) → with_built p next ≡ next)
+    → over (Report cycles name) held ≡ with_trace p trace (λ es. Does (Exactly (report_text p es cycles d)))
+traced-is held cycles name description trace p d f t built =
+    found-is held cycles name description p d f ∙ built (with_trace p held.trace (λ es. Does (Exactly (report_text p es cycles d))))
+    ∙ ap (λ bytes. with_trace p bytes (λ es. Does (Exactly (report_text p es cycles d)))) (sym t)
+
+-- whose trace is refused
+pub trace-stops : (held : Contents) (cycles : ℕ) (name description trace : List ℕ) (p : Plan) (d : ℕ) (end : End)
+    → IsFound held cycles name description p d → trace ≡ held.trace → ((next : Outcome) → with_built p next ≡ next)
+    → ((next : List Entry → Outcome) → IsRefused (with_trace p trace next) end) → IsRefused (over (Report cycles name) held) end
+trace-stops held cycles name description trace p d end f t built refused =
+    subst (λ o. IsRefused o end) (sym (traced-is held cycles name description trace p d f t built))
+    (refused (λ es. Does (Exactly (report_text p es cycles d))))
+
+-- whose report is made
+pub report-made : (held : Contents) (cycles : ℕ) (name description trace bytes : List ℕ) (p : Plan) (d : ℕ) (es : List Entry)
+    → IsFound held cycles name description p d → trace ≡ held.trace → ((next : Outcome) → with_built p next ≡ next)
+    → ((next : List Entry → Outcome) → with_trace p trace next ≡ next es) → bytes ≡ report_text p es cycles d
+    → Makes (over (Report cycles name) held) bytes
+report-made held cycles name description trace bytes p d es f t built entries is =
+    Makes-exactly _ (report_text p es cycles d) bytes
+    (traced-is held cycles name description trace p d f t built ∙ entries (λ xs. Does (Exactly (report_text p xs cycles d)))) is
