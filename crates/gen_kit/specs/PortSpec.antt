@@ -1,10 +1,10 @@
 -- A port of a plan's text, by its place among the ports of its attachment.
-use Rattle.std.specs.Prelude.{◌≡◌, ℕ, ◌≤◌, ◌==◌, ◌||◌, nat_le, List, [], slice_get, if◌then◌else◌}
+use Rattle.std.specs.Prelude.{◌≡◌, ℕ, ◌≤◌, ◌==◌, ◌||◌, nat_le, Bool, false, List, [], Option, Some, None, slice_get, if◌then◌else◌}
 use Rattle.std.specs.Option.{option_map_or}
 use Rattle.vl_tree.specs.declared.tree.Port.{Port}
 use Rattle.noc_model.specs.declared.Host.{Host}
 use Rattle.gen_kit.specs.declared.ports.PortSpec.{PortSpec}
-use Rattle.gen_kit.specs.Ports.{PortKind, port_kinds, host_name}
+use Rattle.gen_kit.specs.Ports.{PortKind, port_kinds, host_name, same_port}
 
 -- the number of the most significant bit of a port of this kind
 abbrev pub high_of : ℕ → ℕ
@@ -26,3 +26,9 @@ pub record IsSpec (s : PortSpec) : Type 0 where
   pub kind : s.kind ≤ 10
   pub output : s.output ≡ nat_le 5 s.kind
   pub high : s.high ≡ high_of s.kind
+
+-- both lists have the same port
+abbrev pub same_at : Option Port → Option Port → Bool
+same_at (Some a) (Some b) = same_port a b
+same_at (Some a) None = false
+same_at None b = false

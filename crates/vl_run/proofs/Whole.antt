@@ -285,3 +285,20 @@ module _ (d : Design) (sound : IsSound d) where
       let net : is_kind is_net all p.name ≡ true = ap (kind_passes is_net) at ∙ ap (λ b. is_net (way_of b)) out in
       let unfed : is_kind is_input all p.name ≡ false = ap (kind_passes is_input) at ∙ ap (λ b. is_input (way_of b)) out in
       ap (λ q. slice_index tops (slice_index q i)) h.ports ∙ ap (slice_index tops) (place-at h.top d.top.ports i p e) ∙ h.tops p.name net unfed ((with_inputs d inputs a).top p.name)
+
+  -- and a number of its width
+  pub output-small : (parts : List Part) (tops ports : List ℕ) (a : Name → Values) → Stands (record { design = d; parts = parts; tops = tops; ports = ports }) a → (i : ℕ) (p : Port)
+      → slice_get d.top.ports i ≡ Some p → p.output ≡ true → slice_index tops (slice_index ports i) < 2 ^ (p.high + 1)
+  output-small parts tops ports a h i p e out =
+      let nothing : Name → ℕ = λ n. 0 in
+      let low : (n : Name) (b : Bool) → (if b then 0 else 0) < 2 ^ (widths all).net n = λ n b. zero-below (widths all) n b in
+      let small : AreSmallNets d (with_inputs d nothing a) = record { top = λ n. low n (is_kind is_input all n); inside = all-small h.top d.leaves a d.top.items parts h.parts } in
+      let right : IsRight d (settled d (with_inputs d nothing a)) = (one-valuation d sound (with_inputs d nothing a) small).0 in
+      let at = first-at d.top.ports ports-first.0 i p e in
+      let wide : (widths all).net p.name ≡ p.high + 1 = ap net_bits at ∙ ap (λ b. if is_net (way_of b) then p.high + 1 else 0) out in
+      subst (λ k. slice_index tops (slice_index ports i) < 2 ^ k) wide
+      (subst (λ x. x < 2 ^ (widths all).net p.name) (sym (output-shows parts tops ports a h nothing i p e out)) (right.top p.name))
+    where
+      zero-below : (w : Widths) (n : Name) (b : Bool) → (if b then 0 else 0) < 2 ^ w.net n
+      zero-below w n true = pow_pos (w.net n)
+      zero-below w n false = pow_pos (w.net n)

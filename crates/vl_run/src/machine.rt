@@ -1,5 +1,5 @@
 //! A sound design that runs.
-ghost use Rattle.std.specs.Prelude.{◌≡◌, ℕ, true, Some, slice_get, slice_index, map, IfOk};
+ghost use Rattle.std.specs.Prelude.{◌≡◌, ◌+◌, ◌<◌, ◌^◌, ℕ, true, Some, slice_get, slice_index, map, IfOk};
 ghost use Rattle.vl_tree.specs.declared.tree.Port.{Port};
 ghost use Rattle.vl_tree.specs.Values.{Name, Design};
 ghost use Rattle.vl_tree.specs.Read.{read_design};
@@ -133,8 +133,10 @@ impl Machine {
 
     /// The number that an output port of the top has in this cycle. Ports are numbered in the order of the list, from 0.
     pub fn outputs(&self, port: u32) -> u64
-        ensures { let d = (running self.now).design in (inside : Name → Values) (inputs : Name → ℕ) (p : Port) → Stands (running self.now) inside
+        ensures value { let d = (running self.now).design in (inside : Name → Values) (inputs : Name → ℕ) (p : Port) → Stands (running self.now) inside
             → slice_get d.top.ports port ≡ Some p → p.output ≡ true → result ≡ (settled d (with_inputs d inputs inside)).top p.name }
+        ensures small { let d = (running self.now).design in (inside : Name → Values) (p : Port) → Stands (running self.now) inside
+            → slice_get d.top.ports port ≡ Some p → p.output ≡ true → result < 2 ^ (p.high + 1) }
     {
         self.tops
             .read(place_at(self.ports.as_slice(), port as usize))
