@@ -14,6 +14,7 @@ ghost use Rattle.noc_model.specs.Step.{asks_for};
 ghost use Rattle.vc_partition.specs.Picks.{from_on};
 ghost use Rattle.slot_switch.specs.Switch.{ask_at, turn_at, switch_at, better_ask, with_ask, chosen_in, granted_to, granted_in, moved, start_of};
 
+pub mod laws;
 #[cfg(test)]
 mod tests;
 
