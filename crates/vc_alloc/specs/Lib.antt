@@ -1,1 +1,2 @@
 pub mod Allocator
+pub mod Chosen

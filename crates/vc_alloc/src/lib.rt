@@ -12,6 +12,7 @@ ghost use Rattle.std.specs.List.{range_with_len};
 ghost use Rattle.noc_model.specs.Plan.{at_local, channels, lanes, tiles};
 ghost use Rattle.vc_alloc.specs.Allocator.{channels_at, lanes_at, held_at, best_at, pointer_at, free_in, better_of, wanted, with_best, with_holder, taken, committed, AreOf, start_of};
 
+pub mod laws;
 #[cfg(test)]
 mod tests;
 

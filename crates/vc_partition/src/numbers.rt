@@ -105,7 +105,8 @@ pub fn input_counts(alloc: Global, plan: &Plan) -> Result<Vec<u32>, AllocError>
     Ok(counts)
 }
 
-/// How many ports each domain has at a tile, which is the same for all: the lengths of lanes with a place for each port.
+/// How many ports each domain has at a tile, which is the same for all: the lengths of lanes with a place for each
+/// port.
 ///
 /// # Errors
 ///
