@@ -74,4 +74,4 @@ abbrev pub parted : List Link → ℕ → ℕ → List Link
 parted ls size i =
     let l : Link = link_at ls i in
     slice_set (with_before (with_next ls l.before l.next) l.next l.before) i
-        (record { next = size + 1; before = size + 1 })
+    (record { next = size + 1; before = size + 1 })

@@ -1,5 +1,5 @@
 -- The switch at the start, and what is asked for so far.
-use Rattle.std.proofs.Common.{◌≡◌, ℕ, zero, suc, ◌+◌, ◌<◌, ◌≤◌, Bool, true, false, List, [], ◌∷◌, length, map, replicate, set, get_or, refl, sym, ap, ◌∙◌, subst, arith, length-set, get_or-set_same, get_or-set_other, ⊎_elim, Option, Some, None}
+use Rattle.std.proofs.Common.{◌≡◌, ℕ, zero, suc, ◌<◌, ◌≤◌, Bool, true, false, List, [], ◌∷◌, length, map, replicate, set, get_or, refl, sym, ap, ◌∙◌, arith, length-set, get_or-set_same, get_or-set_other, ⊎_elim, Option, Some, None}
 use Rattle.std.specs.Prelude.{if◌then◌else◌, slice_get, IfSome}
 use Rattle.std.specs.List.{range_with_len}
 use Rattle.std.proofs.lemmas.Bool.{cases_lt}
@@ -92,7 +92,7 @@ with-channels : (x : Switch) (d port : ℕ) (n : Option Grant) → d < length x.
     → (e k : ℕ) (g : Grant) → ask_at (with_ask x d port n) e k ≡ Some g → g.channel < 8
 with-channels x d port n there old new e k g is = ⊎_elim
     (λ w. let own : lane (set x.asks d (set (lane x.asks d) port n)) e ≡ set (lane x.asks d) port n =
-        ap (lane (set x.asks d (set (lane x.asks d) port n))) w.1 ∙ get_or-set_same x.asks d (set (lane x.asks d) port n) [] there in
+    ap (lane (set x.asks d (set (lane x.asks d) port n))) w.1 ∙ get_or-set_same x.asks d (set (lane x.asks d) port n) [] there in
     let at : get_or (set (lane x.asks d) port n) k None ≡ Some g = sym (ap (λ l. get_or l k None) own) ∙ is in
     ⊎_elim
     (λ u. new g (set-some (lane x.asks d) port n g (ap (λ j. get_or (set (lane x.asks d) port n) j None) (sym u.1) ∙ at)))

@@ -1,5 +1,5 @@
 -- What is asked for and granted is what the definition of a tile's step asks for and grants.
-use Rattle.std.proofs.Common.{◌≡◌, ℕ, zero, suc, ◌+◌, ◌<◌, ◌≤◌, Bool, true, false, Option, Some, None, refl, sym, ap, ◌∙◌, subst, arith, ℤ}
+use Rattle.std.proofs.Common.{◌≡◌, ℕ, zero, suc, ◌<◌, Bool, true, false, Option, Some, None, refl, sym, ap, ◌∙◌, subst, arith, ℤ}
 use Rattle.std.specs.Prelude.{option_map, option_and_then, ◌&&◌, ◌==◌, nat_le, if◌then◌else◌}
 use Rattle.std.proofs.lemmas.Bool.Decides.{nat_tests}
 use Rattle.noc_model.specs.declared.Grant.{Grant}
@@ -37,6 +37,7 @@ step pointer m grants g (Some k) e own have = go (grants k) refl (have k refl)
     both : (t : Bool) (b : Grant) → grants k ≡ Some b → Some (if t then g else b) ≡ grants (if t then m else k)
     both true b is = sym e
     both false b is = sym is
+
     go : (f : Option Grant) → grants k ≡ f → IsGrantOf k f → Some (better_ask pointer (grants k) g) ≡ grants (if comes_first pointer m k then m else k)
     go None is some = absurd some
     go (Some b) is some =

@@ -49,10 +49,10 @@ impl Model for SlotSwitch {
     ghost view = { λ a. record { ports = a.ports; asks = a.asks; turns = a.turns; switches = a.switches } };
 
     ghost invariant = { λ a. IsSwitch (record {
-        ports = a.ports;
-        asks = a.asks;
-        turns = a.turns;
-        switches = a.switches;
+      ports = a.ports;
+      asks = a.asks;
+      turns = a.turns;
+      switches = a.switches;
     }) };
 }
 
