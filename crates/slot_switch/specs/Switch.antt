@@ -1,5 +1,5 @@
 -- The switch allocator of a tile.
-use Rattle.std.specs.Prelude.{◌≡◌, ℕ, ◌+◌, ◌<◌, ◌≤◌, List, [], map, replicate, length, slice_index_or, slice_set, Option, Some, None, option_map, option_and_then, if◌then◌else◌}
+use Rattle.std.specs.Prelude.{◌≡◌, ℕ, ◌+◌, ◌<◌, ◌≤◌, List, map, replicate, length, slice_index_or, slice_set, Option, Some, None, option_map, option_and_then, if◌then◌else◌}
 use Rattle.std.specs.List.{range_with_len}
 use Rattle.noc_model.specs.declared.Grant.{Grant}
 use Rattle.noc_model.specs.Plan.{Plan, ports}
@@ -9,8 +9,8 @@ use Rattle.vc_partition.specs.Lanes.{lane}
 use Rattle.vc_partition.specs.Picks.{comes_first}
 use Rattle.slot_switch.specs.declared.Granted.{Granted}
 
--- what contracts see: the ports; of each domain by input port what it asks for in this cycle, and its pointer; by output
--- port the output's pointer
+-- what contracts see: the ports; of each domain by input port what it asks for in this cycle, and its pointer; by
+-- output port the output's pointer
 pub record Switch : Type 0 where
   pub ports : ℕ
   pub asks : List (List (Option Grant))

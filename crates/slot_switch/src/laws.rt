@@ -1,4 +1,5 @@
-//! What the steps of the switch come to, over the definitions. Each law is the contract of a function that does nothing.
+//! What the steps of the switch come to, over the definitions. Each law is the contract of a function that does
+//! nothing.
 
 ghost use Rattle.std.specs.Prelude.{◌≡◌, ◌<◌, ℕ, ℤ, Bool, false, Option, Some, None, option_and_then};
 ghost use Rattle.noc_model.specs.declared.Grant.{Grant as GrantValue};
@@ -11,9 +12,9 @@ ghost use Rattle.slot_switch.specs.declared.Granted.{Granted as GrantedValue};
 ghost use Rattle.slot_switch.specs.Switch.{Switch, better_ask, chosen_in, granted_in};
 ghost use Rattle.slot_switch.specs.Asked.{IsGrantOf, HaveGrants, AsksAs};
 
-/// Channels may be made known in any order: where what an input port asks for so far is the round-robin choice of a set
-/// of its channels, it is the choice of the set with one channel more after that channel was made known. Where none was,
-/// it is the choice of the empty set.
+/// Channels may be made known in any order: where what an input port asks for so far is the round-robin choice of a
+/// set of its channels, it is the choice of the set with one channel more after that channel was made known. Where none
+/// was, it is the choice of the empty set.
 pub fn in_any_order()
     ensures first { (n pointer : ℕ) (grants : ℕ → Option GrantValue)
         → option_and_then grants (pick n (λ k. false) pointer) ≡ None }

@@ -1,3 +1,4 @@
 pub mod Winners
 pub mod Starts
 pub mod Chosen
+pub mod Wanted

@@ -1,2 +1,4 @@
 pub mod Allocator
 pub mod Chosen
+pub mod Shown
+pub mod Progress

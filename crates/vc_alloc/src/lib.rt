@@ -7,19 +7,29 @@
 //! router.
 #![tactic(auto)]
 
-ghost use Rattle.std.specs.Prelude.{◌≡◌, ◌<◌, ◌≤◌, ◌+◌, ◌*◌, true, length, map, replicate, None, IfSome, IfOk};
+ghost use Rattle.std.specs.Prelude.{◌≡◌, ◌<◌, ◌≤◌, ◌+◌, ◌*◌, ℕ, true, length, map, replicate, None, IfSome, IfOk};
 ghost use Rattle.std.specs.List.{range_with_len};
-ghost use Rattle.noc_model.specs.Plan.{at_local, channels, lanes, tiles};
+ghost use Rattle.noc_model.specs.Plan.{at_local, channels, lanes, tiles, ports};
+ghost use Rattle.noc_model.specs.Inputs.{input_count};
+ghost use Rattle.noc_model.specs.Tile.{Tile};
+ghost use Rattle.noc_model.specs.Step.{winner};
+ghost use Rattle.vc_partition.specs.Lanes.{lane};
+ghost use Rattle.vc_alloc.specs.Chosen.{winner_with, free_at};
+ghost use Rattle.vc_alloc.specs.Shown.{stage_at, GoesBelow, IsFor, Shows, wanted_at};
 ghost use Rattle.vc_alloc.specs.Allocator.{channels_at, lanes_at, held_at, best_at, pointer_at, free_in, better_of, wanted, with_best, with_holder, taken, committed, AreOf, start_of};
 
 pub mod laws;
 #[cfg(test)]
 mod tests;
 
+use dor_routes::class_after;
 use noc_model::Plan;
 use std::alloc::{AllocError, Global};
 use std::marker::Model;
-use vc_partition::{Lanes, comes_first, input_counts, link_channels, port_count, port_counts};
+use vc_partition::{
+    Lanes, Stage, channel_count, comes_first, input_counts, link_channels, port_count, port_counts,
+    unpack,
+};
 
 /// An input that gets an output, and the channel that it gets there.
 #[derive(Clone, Copy, Debug, PartialEq, Eq)]
@@ -224,6 +234,48 @@ impl VcAlloc {
                 Winner { place, to },
             );
             self.put_best(out, Some(better));
+        }
+    }
+
+    /// All inputs of domain `d` that wait for an output are made known: the best of each output is the input that wins
+    /// it in the definition of a tile's step.
+    pub fn want_all(&mut self, plan: &Plan, d: u32, stages: &Lanes<Stage>)
+        requires tile { self.old.tile < tiles plan.now }
+        requires domain { d < length plan.now.domains }
+        requires made { IsFor self.old plan.now d }
+        requires stages { d < length stages.now }
+        requires inputs { length (lane stages.now d) ≡ input_count plan.now d }
+        requires outs { (k : ℕ) → GoesBelow (ports plan.now) (stage_at stages.now d k) }
+        requires quiet { (o : ℕ) → best_at self.old o ≡ None }
+        ensures best { (s : Tile) (o : ℕ) → Shows self.old stages.now plan.now d s → o < ports plan.now → best_at self.new o
+            ≡ winner_with (free_at plan.now d self.old.tile s o) (winner plan.now d self.old.tile s o) }
+        ensures rest { self.new ≡ record self.old { best = self.new.best } }
+        ensures same { AreOf self.new d }
+    {
+        for i in 0..port_count(plan) * link_channels(plan, d) {
+            self.want_at(plan, d, i, *stages.at(d, i));
+        }
+    }
+
+    /// The input at place `i` is made known, if its packet waits for an output.
+    fn want_at(&mut self, plan: &Plan, d: u32, i: u32, stage: Stage)
+        requires tile { self.old.tile < tiles plan.now }
+        requires domain { d < length plan.now.domains }
+        requires made { IsFor self.old plan.now d }
+        requires place { i < input_count plan.now d }
+        requires out { GoesBelow (ports plan.now) stage }
+        requires same { AreOf self.old d }
+        ensures best { self.new ≡ wanted_at self.old plan.now d i stage }
+        ensures same { AreOf self.new d }
+    {
+        let lanes = link_channels(plan, d);
+        let port = i / lanes;
+        let channel = i % lanes;
+        if let Stage::Routed { out } = stage {
+            if channel < channel_count(plan, d, port) {
+                let class = class_after(plan, self.tile, port, unpack(plan, d, channel).0, out);
+                self.want(d, i, out, class);
+            }
         }
     }
 

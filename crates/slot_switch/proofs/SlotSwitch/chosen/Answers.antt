@@ -1,4 +1,4 @@
-use Rattle.std.proofs.Common.{◌≡◌, ℕ, Bool, ap, ◌∙◌}
+use Rattle.std.proofs.Common.{ℕ, Bool, ap, ◌∙◌}
 use Rattle.noc_model.specs.Pick.{pick}
 use Rattle.noc_model.specs.Step.{asks_for}
 use Rattle.vc_partition.proofs.Picks.{pick-later, pick-first}

@@ -1,4 +1,4 @@
-use Rattle.std.proofs.Common.{◌≡◌, ◌∙◌, sym, subst}
+use Rattle.std.proofs.Common.{◌∙◌, sym, subst}
 use Rattle.slot_switch.specs.Switch.{Switch, IsSwitch}
 use Rattle.slot_switch.proofs.Asks.{is-start, start-is}
 use Rattle.slot_switch.proofs.SlotSwitch.new.Goals as goal
