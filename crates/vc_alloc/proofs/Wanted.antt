@@ -35,12 +35,16 @@ or-false false = refl
 module _ (p : Plan) (d : ℕ) (x : Allocator) (stages : List (List Stage)) (s : Tile) (made : IsFor x p d) (shows : Shows x stages p d s) (some : 1 ≤ channels p d) where
   abbrev many : ℕ
   many = input_count p d
+
   abbrev tile : ℕ
   tile = x.tile
+
   abbrev candidate : ℕ → ℕ → Bool
   candidate o k = is_candidate p d tile s o k
+
   abbrev sofar : ℕ → ℕ → ℕ → Bool
   sofar o i k = nat_lt k i && candidate o k
+
   abbrev best_sofar : ℕ → ℕ → Option Winner
   best_sofar o i = winner_with (free_at p d tile s o) (pick many (sofar o i) (s.allocation o))
 
@@ -114,9 +118,9 @@ module _ (p : Plan) (d : ℕ) (x : Allocator) (stages : List (List Stage)) (s : 
         (λ u. let same : o ≡ out = u.1 in
         let waits : waits_for (Routed out) out ≡ true = grind (arith, nat_tests) in
         let is : candidate out i ≡ is_some (free_at p d tile s out i) =
-            ap (λ b. b && (waits_for (s.stage (input_port p d i) (input_channel p d i)) out && is_some (free_at p d tile s out i))) present
-            ∙ ap (λ t. waits_for t out && is_some (free_at p d tile s out i)) (sym (stage-is i (Routed out) below e))
-            ∙ ap (λ b. b && is_some (free_at p d tile s out i)) waits in
+        ap (λ b. b && (waits_for (s.stage (input_port p d i) (input_channel p d i)) out && is_some (free_at p d tile s out i))) present
+        ∙ ap (λ t. waits_for t out && is_some (free_at p d tile s out i)) (sym (stage-is i (Routed out) below e))
+        ∙ ap (λ b. b && is_some (free_at p d tile s out i)) waits in
         ap (best_at (with_best cur out w)) same ∙ get_or-set_same bs out w None (omega (arith, there, long))
         ∙ ap (λ k. wanted k (best_at cur out) i (free_in cur d out class)) (shows.pointers out there)
         ∙ ap (λ b. wanted (s.allocation out) b i (free_in cur d out class)) (before out there)
@@ -181,8 +185,8 @@ knows-none x p d stages quiet = record {
   same = λ o b e. absurd (let bad : None ≡ Some b = sym (quiet o) ∙ e in cc bad);
   best = λ s o shows there. quiet o
       ∙ sym (ap (winner_with (free_at p d x.tile s o)) (pick-same (input_count p d) (λ k. nat_lt k 0 && is_candidate p d x.tile s o k) (λ k. false) (s.allocation o) (s.allocation o)
-          (λ k less. let e : nat_lt k 0 ≡ false = grind (arith, nat_tests) in ap (λ b. b && is_candidate p d x.tile s o k) e) refl)
-          ∙ first-none (input_count p d) (s.allocation o) (free_at p d x.tile s o));
+      (λ k less. let e : nat_lt k 0 ≡ false = grind (arith, nat_tests) in ap (λ b. b && is_candidate p d x.tile s o k) e) refl)
+      ∙ first-none (input_count p d) (s.allocation o) (free_at p d x.tile s o));
 }
 
 pub knows-more : (p : Plan) (d i : ℕ) (x y z : Allocator) (stages : List (List Stage)) (st : Stage) → IsFor x p d → 1 ≤ channels p d → i < input_count p d → KnowsBelow i x y p d stages

@@ -17,4 +17,4 @@ pub record KnowsBelow (i : ℕ) (x y : Allocator) (p : Plan) (d : ℕ) (stages :
   pub same : AreOf y d
   pub best : (s : Tile) (o : ℕ) → Shows x stages p d s → o < ports p → best_at y o
       ≡ winner_with (free_at p d x.tile s o)
-          (pick (input_count p d) (λ k. nat_lt k i && is_candidate p d x.tile s o k) (s.allocation o))
+      (pick (input_count p d) (λ k. nat_lt k i && is_candidate p d x.tile s o k) (s.allocation o))

@@ -37,7 +37,7 @@ abbrev pub wanted_by : Allocator → Plan → ℕ → ℕ → ℕ → Allocator
 wanted_by x p d k o =
     if nat_lt (input_channel p d k) (in_channels p d (input_port p d k))
     then with_best x o (wanted (pointer_at x d o) (best_at x o) k
-        (free_in x d o (class_of p d x.tile (input_port p d k) (input_channel p d k) o)))
+    (free_in x d o (class_of p d x.tile (input_port p d k) (input_channel p d k) o)))
     else x
 
 -- the allocator where the input at place k is made known, if its packet waits for an output

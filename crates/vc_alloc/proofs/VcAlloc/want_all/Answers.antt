@@ -17,7 +17,7 @@ loop-i-preserved c =
     let d = c.args.d in
     let i = c.loop-i.i in
     let count : c.port_count.result * c.link_channels.result ≡ input_count p d =
-        ap (λ k. k * c.link_channels.result) c.port_count.ensures.value ∙ ap (λ k. ports p * k) c.link_channels.ensures.value in
+    ap (λ k. k * c.link_channels.result) c.port_count.ensures.value ∙ ap (λ k. ports p * k) c.link_channels.ensures.value in
     let below : i < input_count p d = omega (arith, c.loop-i-test.true, count) in
     let some : 1 ≤ channels p d = some-class (classes p) (channels p d) c.link_channels.result c.link_channels.ensures.value c.link_channels.ensures.some in
     let stage : c.at.result.now ≡ stage_at c.args.stages.now d i = sym (get-some (lane c.args.stages.now d) i c.at.result.now Idle c.at.ensures) in
@@ -29,5 +29,5 @@ returns-clause-best c =
     let p = c.args.plan.now in
     let d = c.args.d in
     let count : c.port_count.result * c.link_channels.result ≡ input_count p d =
-        ap (λ k. k * c.link_channels.result) c.port_count.ensures.value ∙ ap (λ k. ports p * k) c.link_channels.ensures.value in
+    ap (λ k. k * c.link_channels.result) c.port_count.ensures.value ∙ ap (λ k. ports p * k) c.link_channels.ensures.value in
     λ s o shows there. knows-all p d c.loop-i.i c.args.self.now c.loop-i.self c.args.stages.now (omega (arith, c.loop-i-test.false, count)) c.loop-i.invariant s o shows there
