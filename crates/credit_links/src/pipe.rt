@@ -1,6 +1,7 @@
 //! The row of registers of a link.
 
 ghost use Rattle.std.specs.Prelude.{◌≡◌, ◌≤◌, ◌-◌, ◌∷◌, length, take, replicate, None, IfOk};
+ghost use Rattle.noc_model.specs.Limits.{most_stages};
 ghost use Rattle.credit_links.specs.Rows.{last_place};
 
 use circular_buffer::HeapCircularBuffer;
@@ -33,7 +34,7 @@ impl Pipe {
     /// When memory runs out.
     pub fn new(alloc: Global, stages: u32) -> Result<Pipe, AllocError>
         requires some { 1 ≤ stages }
-        requires few { stages ≤ 4 }
+        requires few { stages ≤ most_stages }
         ensures { IfOk result (λ pipe. pipe ≡ replicate stages None) }
     {
         let mut places = HeapCircularBuffer::with_capacity(alloc, stages as usize)?;

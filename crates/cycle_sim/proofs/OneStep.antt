@@ -7,7 +7,7 @@ use Rattle.noc_model.specs.declared.Flit.{Flit}
 use Rattle.noc_model.specs.declared.Grant.{Grant}
 use Rattle.noc_model.specs.declared.Stage.{Stage}
 use Rattle.noc_model.specs.declared.Stage.TheVariants.{Idle, Routed, Active}
-use Rattle.noc_model.specs.Plan.{Plan, channels, lanes, in_channels, ports}
+use Rattle.noc_model.specs.Plan.{Plan, channels, link_channels, in_channels, ports}
 use Rattle.noc_model.specs.declared.ways.Way.TheVariants.{Local}
 use Rattle.noc_model.specs.Place.{route, class_after, way_from, coords_in, is_wrap, port_of}
 use Rattle.noc_model.specs.Pick.{pick, least, number_if}
@@ -99,10 +99,10 @@ pub record IsUnlinked (s : Tile) : Type 0 where
   pub queue : (port c : ℕ) → s.queue (suc port) c ≡ []
   pub stage : (port c : ℕ) → s.stage (suc port) c ≡ Idle
 
-lanes-some : (p : Plan) (d : ℕ) → channels p d ≡ 1 → (1 ≤ lanes p d) × (lanes p d ≤ 2)
-lanes-some p d one = go p.torus refl
+link_channels-some : (p : Plan) (d : ℕ) → channels p d ≡ 1 → (1 ≤ link_channels p d) × (link_channels p d ≤ 2)
+link_channels-some p d one = go p.torus refl
   where
-    go : (b : Bool) → p.torus ≡ b → (1 ≤ lanes p d) × (lanes p d ≤ 2)
+    go : (b : Bool) → p.torus ≡ b → (1 ≤ link_channels p d) × (link_channels p d ≤ 2)
     go true e = rw (e, one) (omega arith, omega arith)
     go false e = rw (e, one) (omega arith, omega arith)
 
@@ -113,24 +113,24 @@ cand p d n s o port c = nat_lt c (in_channels p d port) && (waits_for (s.stage p
 -- no place but the first is a candidate
 others : (p : Plan) (d n : ℕ) (s : Tile) (o k : ℕ) → IsSingle p d → IsUnlinked s → is_candidate p d n s o (suc k) ≡ false
 unfolding cand
-others p d n s o k single far = go (suc k / lanes p d) refl
+others p d n s o k single far = go (suc k / link_channels p d) refl
   where
     c : ℕ
-    c = suc k % lanes p d
+    c = suc k % link_channels p d
 
-    go : (port : ℕ) → suc k / lanes p d ≡ port → is_candidate p d n s o (suc k) ≡ false
+    go : (port : ℕ) → suc k / link_channels p d ≡ port → is_candidate p d n s o (suc k) ≡ false
     go zero e =
-        let parts : suc k % lanes p d + lanes p d * (suc k / lanes p d) ≡ suc k = mod-add-div (suc k) (lanes p d) in
-        let none : lanes p d * (suc k / lanes p d) ≡ 0 = ap (λ q. lanes p d * q) e ∙ mul-zero (lanes p d) in
-        let beyond : 1 ≤ suc k % lanes p d = omega arith in
+        let parts : suc k % link_channels p d + link_channels p d * (suc k / link_channels p d) ≡ suc k = mod-add-div (suc k) (link_channels p d) in
+        let none : link_channels p d * (suc k / link_channels p d) ≡ 0 = ap (λ q. link_channels p d * q) e ∙ mul-zero (link_channels p d) in
+        let beyond : 1 ≤ suc k % link_channels p d = omega arith in
         let one = single.channel in
-        let wide : nat_lt (suc k % lanes p d) (channels p d) ≡ false = grind (arith, nat_tests) in
-        ap (λ port. cand p d n s o port (suc k % lanes p d)) e
-        ∙ ap (λ b. b && (waits_for (s.stage 0 (suc k % lanes p d)) o && is_some (free_for p d n s o 0 (suc k % lanes p d)))) wide
+        let wide : nat_lt (suc k % link_channels p d) (channels p d) ≡ false = grind (arith, nat_tests) in
+        ap (λ port. cand p d n s o port (suc k % link_channels p d)) e
+        ∙ ap (λ b. b && (waits_for (s.stage 0 (suc k % link_channels p d)) o && is_some (free_for p d n s o 0 (suc k % link_channels p d)))) wide
     go (suc port) e =
-        ap (λ q. cand p d n s o q (suc k % lanes p d)) e
-        ∙ ap (λ z. nat_lt (suc k % lanes p d) (in_channels p d (suc port)) && (waits_for z o && is_some (free_for p d n s o (suc port) (suc k % lanes p d)))) (far.stage port (suc k % lanes p d))
-        ∙ and-false (nat_lt (suc k % lanes p d) (in_channels p d (suc port)))
+        ap (λ q. cand p d n s o q (suc k % link_channels p d)) e
+        ∙ ap (λ z. nat_lt (suc k % link_channels p d) (in_channels p d (suc port)) && (waits_for z o && is_some (free_for p d n s o (suc port) (suc k % link_channels p d)))) (far.stage port (suc k % link_channels p d))
+        ∙ and-false (nat_lt (suc k % link_channels p d) (in_channels p d (suc port)))
 
 free-if : (b : Bool) → option_map (λ (j : ℕ). 0 + j) (number_if (not b) 0) ≡ (if b then None else Some 0)
 free-if true = refl
@@ -153,12 +153,12 @@ free-local p d n s =
 first : (p : Plan) (d n : ℕ) (s : Tile) → IsSingle p d → is_candidate p d n s 0 0 ≡ (waits_for (s.stage 0 0) 0 && not (s.held 0 0))
 unfolding cand
 first p d n s single =
-    let some = lanes-some p d single.channel in
-    let a : 0 / lanes p d ≡ 0 = (let l : 0 < lanes p d = omega (arith, some.0) in div-eq_of_lt l) in
-    let b : 0 % lanes p d ≡ 0 = (let l : 0 < lanes p d = omega (arith, some.0) in mod-eq_of_lt l) in
+    let some = link_channels-some p d single.channel in
+    let a : 0 / link_channels p d ≡ 0 = (let l : 0 < link_channels p d = omega (arith, some.0) in div-eq_of_lt l) in
+    let b : 0 % link_channels p d ≡ 0 = (let l : 0 < link_channels p d = omega (arith, some.0) in mod-eq_of_lt l) in
     let one = single.channel in
     let there : nat_lt 0 (channels p d) ≡ true = grind (arith, nat_tests) in
-    ap (λ port. cand p d n s 0 port (0 % lanes p d)) a ∙ ap (cand p d n s 0 0) b
+    ap (λ port. cand p d n s 0 port (0 % link_channels p d)) a ∙ ap (cand p d n s 0 0) b
     ∙ ap (λ t. t && (waits_for (s.stage 0 0) 0 && is_some (free_for p d n s 0 0 0))) there
     ∙ ap (λ o. waits_for (s.stage 0 0) 0 && is_some o) (free-local p d n s)
     ∙ ap (λ t. waits_for (s.stage 0 0) 0 && t) (is-free (s.held 0 0))
@@ -167,17 +167,17 @@ grows : (m b : ℕ) → b ≤ (1 + 2 * m) * b
 grows m b = omega arith
 
 -- the number of places is not 0
-places-some : (p : Plan) (d : ℕ) → IsSingle p d → 0 < ports p * lanes p d
+places-some : (p : Plan) (d : ℕ) → IsSingle p d → 0 < ports p * link_channels p d
 places-some p d single =
-    let some = lanes-some p d single.channel in
-    let more : lanes p d ≤ ports p * lanes p d = grows (length p.dims) (lanes p d) in
+    let some = link_channels-some p d single.channel in
+    let more : link_channels p d ≤ ports p * link_channels p d = grows (length p.dims) (link_channels p d) in
     omega (arith, some.0)
 
 -- the local output is won exactly where the channel waits for it
 winner-local : (p : Plan) (d n : ℕ) (s : Tile) → IsSingle p d → IsUnlinked s → winner p d n s 0 ≡ number_if (waits_for (s.stage 0 0) 0 && not (s.held 0 0)) 0
 unfolding winner
 winner-local p d n s single far =
-    pick-one (ports p * lanes p d) (is_candidate p d n s 0) (s.allocation 0) (places-some p d single) (λ k. others p d n s 0 k single far)
+    pick-one (ports p * link_channels p d) (is_candidate p d n s 0) (s.allocation 0) (places-some p d single) (λ k. others p d n s 0 k single far)
     ∙ ap (λ b. number_if b 0) (first p d n s single)
 
 -- the channel that the winner takes
@@ -186,15 +186,15 @@ taken-local : (p : Plan) (d n : ℕ) (s : Tile) → IsSingle p d → IsUnlinked 
 unfolding taken_channel
 taken-local p d n s single far = go (s.held 0 0) (waits_for (s.stage 0 0) 0) refl refl
   where
-    wins : taken_channel p d n s 0 ≡ option_and_then (λ k. free_for p d n s 0 (k / lanes p d) (k % lanes p d)) (number_if (waits_for (s.stage 0 0) 0 && not (s.held 0 0)) 0)
-    wins = ap (option_and_then (λ k. free_for p d n s 0 (k / lanes p d) (k % lanes p d))) (winner-local p d n s single far)
+    wins : taken_channel p d n s 0 ≡ option_and_then (λ k. free_for p d n s 0 (k / link_channels p d) (k % link_channels p d)) (number_if (waits_for (s.stage 0 0) 0 && not (s.held 0 0)) 0)
+    wins = ap (option_and_then (λ k. free_for p d n s 0 (k / link_channels p d) (k % link_channels p d))) (winner-local p d n s single far)
 
-    free : free_for p d n s 0 (0 / lanes p d) (0 % lanes p d) ≡ (if s.held 0 0 then None else Some 0)
+    free : free_for p d n s 0 (0 / link_channels p d) (0 % link_channels p d) ≡ (if s.held 0 0 then None else Some 0)
     free =
-        let some = lanes-some p d single.channel in
-        let a : 0 / lanes p d ≡ 0 = (let l : 0 < lanes p d = omega (arith, some.0) in div-eq_of_lt l) in
-        let b : 0 % lanes p d ≡ 0 = (let l : 0 < lanes p d = omega (arith, some.0) in mod-eq_of_lt l) in
-        ap (λ port. free_for p d n s 0 port (0 % lanes p d)) a ∙ ap (free_for p d n s 0 0) b ∙ free-local p d n s
+        let some = link_channels-some p d single.channel in
+        let a : 0 / link_channels p d ≡ 0 = (let l : 0 < link_channels p d = omega (arith, some.0) in div-eq_of_lt l) in
+        let b : 0 % link_channels p d ≡ 0 = (let l : 0 < link_channels p d = omega (arith, some.0) in mod-eq_of_lt l) in
+        ap (λ port. free_for p d n s 0 port (0 % link_channels p d)) a ∙ ap (free_for p d n s 0 0) b ∙ free-local p d n s
 
     go : (h w : Bool) → s.held 0 0 ≡ h → waits_for (s.stage 0 0) 0 ≡ w → taken_channel p d n s 0 ≡ (if waits_for (s.stage 0 0) 0 && not (s.held 0 0) then Some 0 else None)
     go true true e f = wins ∙ rw (e, f) refl
@@ -222,7 +222,7 @@ asked-far : (p : Plan) (d n : ℕ) (t : ℤ) (s : Tile) (i : TileIn) (port : ℕ
 unfolding asked
 asked-far p d n t s i port far =
     ap (option_and_then (λ c. grant_at c (s.stage (suc port) c)))
-    (pick-none (lanes p d) (is_ready p d n t s i (suc port)) (s.turn (suc port)) (λ c. ap (is_ready_at p d n t s i (s.queue (suc port) c)) (far.stage port c)))
+    (pick-none (link_channels p d) (is_ready p d n t s i (suc port)) (s.turn (suc port)) (λ c. ap (is_ready_at p d n t s i (s.queue (suc port) c)) (far.stage port c)))
 
 -- what the local port asks for
 abbrev the_grant : Grant
@@ -324,8 +324,8 @@ stage-cases p d n t s i x Sent single h e =
     let waits : (waits_for (s.stage 0 0) 0 && not (s.held 0 0)) ≡ true = ap (λ z. waits_for z 0 && not (s.held 0 0)) stage ∙ ap not held in
     let won : winner p d n s 0 ≡ Some 0 = winner-local p d n s single far ∙ ap (λ b. number_if b 0) waits in
     let taken : taken_channel p d n s 0 ≡ Some 0 = taken-local p d n s single far ∙ ap (λ b. if b then Some 0 else None) waits in
-    let place : 0 * lanes p d + 0 ≡ 0 = omega arith in
-    ap (λ w. activated (is_place w (0 * lanes p d + 0)) 0 (taken_channel p d n s 0)) won
+    let place : 0 * link_channels p d + 0 ≡ 0 = omega arith in
+    ap (λ w. activated (is_place w (0 * link_channels p d + 0)) 0 (taken_channel p d n s 0)) won
     ∙ ap (λ k. activated (is_place (Some 0) k) 0 (taken_channel p d n s 0)) place ∙ ap (activated true 0) taken
 stage-cases p d n t s i x Open single h e =
     ap (λ b. if b && is_tail (front (s.queue 0 0)) then Idle else Active 0 0) (leaves-local p d n t s i x single h)

@@ -1,3 +1,2 @@
 pub mod OneTile
 pub mod Net
-pub mod Run

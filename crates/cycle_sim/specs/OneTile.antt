@@ -38,6 +38,7 @@ is_open_claim Waiting = false
 is_open_claim Sent = false
 is_open_claim Open = true
 
+-- whether a flit is in the list
 abbrev pub has_front : List Flit → Bool
 has_front [] = false
 has_front (f ∷ fs) = true
@@ -56,6 +57,7 @@ next_claim leaves fs Waiting = if has_front fs then Sent else Waiting
 next_claim leaves fs Sent = Open
 next_claim leaves fs Open = if leaves && is_tail (front fs) then Waiting else Open
 
+-- whether the channel was routed
 abbrev pub is_sent : Claim → Bool
 is_sent Waiting = false
 is_sent Sent = true

@@ -6,7 +6,7 @@ ghost use Rattle.cycle_sim.specs.OneTile.{next_one, driver_after, seen_one};
 
 use crate::tile::OneTile;
 use noc_model::Plan;
-use tile_drive::{Drive, Seen, tell_got, tell_taken};
+use tile_drive::{Drive, Seen, notify_got, notify_taken};
 
 /// One cycle of domain `d`, whose attachment is number `j`.
 pub(crate) fn step_attached<D: Drive>(
@@ -38,6 +38,6 @@ pub(crate) fn step_attached<D: Drive>(
     let got = if hears { ejected } else { None };
     seen.set(j, offer, ready, tile.dropped(), got);
     tile.step(plan, d, offer, hears);
-    tell_taken(drive, j, cycle, ready && offer.is_some());
-    tell_got(drive, j, cycle, hears, ejected);
+    notify_taken(drive, j, cycle, ready && offer.is_some());
+    notify_got(drive, j, cycle, hears, ejected);
 }

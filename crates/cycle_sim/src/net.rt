@@ -55,6 +55,10 @@ fn ones_of(alloc: Global, plan: &Plan) -> Result<Vec<OneTile>, AllocError>
 
 impl Net {
     /// The network in cycle 0. On an error the plan is dropped.
+    ///
+    /// # Errors
+    ///
+    /// When memory runs out.
     pub fn new(alloc: Global, plan: Plan) -> Result<Net, AllocError>
         requires built { IsBuilt plan }
         ensures plan { IfOk result (λ net. net.plan ≡ plan) }

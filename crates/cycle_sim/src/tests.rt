@@ -42,7 +42,7 @@ fn one_tile(alloc: Global, buffer: u32) -> Result<Parts, AllocError>
 }
 
 /// The events, as the lines of a report.
-fn tell(alloc: Global, events: &Events) -> Result<String, AllocError> {
+fn printed(alloc: Global, events: &Events) -> Result<String, AllocError> {
     let mut text = String::new(alloc);
     for event in events.as_slice() {
         let t = event.cycle;
@@ -91,7 +91,7 @@ fn words_are_taken_and_got(rt: HostRuntime) {
         let mut drive = TraceDrive::new(alloc, &plan, &trace).expect(&rt, "memory");
         let mut net = Net::new(alloc, plan).expect(&rt, "memory");
         let events = run(alloc, &mut net, &mut drive, cycles).expect(&rt, "memory");
-        let told = tell(alloc, &events).expect(&rt, "memory");
-        assert_eq!(&rt; told.as_str(), want);
+        let text = printed(alloc, &events).expect(&rt, "memory");
+        assert_eq!(&rt; text.as_str(), want);
     }
 }

@@ -6,6 +6,7 @@ ghost use Rattle.noc_model.specs.Events.{ejected_of};
 ghost use Rattle.cycle_sim.specs.OneTile.{next_one, start_one, taken_word, leaves_one, next_claim, is_open_claim, has_front, is_sent};
 
 use flit_word::{Ejected, Flit, Offer};
+use noc_model::limits::MOST_BUFFER;
 use noc_model::{Packet, Plan};
 use std::alloc::{AllocError, Global};
 use std::marker::Model;
@@ -22,9 +23,6 @@ pub(crate) enum Claim {
     Open,
 }
 
-/// How many flits a list has room for: the greatest buffer of a plan.
-const ROOM: usize = 16;
-
 /// What the tile keeps for a domain. All goes by the local output.
 #[derive(Drop)]
 pub(crate) struct OneTile {
@@ -39,13 +37,14 @@ pub(crate) struct OneTile {
 
 impl Model for OneTile {
     ghost use Rattle.std.specs.Prelude.{◌≤◌, vec_capacity};
+    ghost use Rattle.noc_model.specs.Limits.{most_buffer};
     ghost use Rattle.cycle_sim.specs.OneTile.{One};
 
     ghost Value = { One };
 
     ghost view = { λ a. record { queue = a.queue.items; claim = a.claim; won = a.won; granted = a.granted; packet = a.packet; dropped = a.dropped; ejected = a.ejected } };
 
-    ghost invariant = { λ a. 16 ≤ vec_capacity a.queue };
+    ghost invariant = { λ a. most_buffer ≤ vec_capacity a.queue };
 }
 
 /// Takes a flit from the front of a list, if one leaves, and puts one at its end, if one enters.
@@ -111,7 +110,7 @@ impl OneTile {
         ensures { IfOk result (λ x. x ≡ start_one) }
     {
         Ok(OneTile {
-            queue: Vec::with_capacity(alloc, ROOM)?,
+            queue: Vec::with_capacity(alloc, MOST_BUFFER as usize)?,
             claim: Claim::Waiting,
             won: false,
             granted: false,

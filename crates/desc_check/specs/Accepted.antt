@@ -14,14 +14,17 @@ abbrev pub form_fault : Draft → Option DescFault
 form_fault d = first_of (version_fault d.version ∷ shape_fault d.shape ∷ dims_fault d.version d.dims
     ∷ stages_fault d.stages ∷ buffer_fault d.buffer ∷ [])
 
+-- the first fault of the domains
 abbrev pub domains_fault : Draft → Option DescFault
 domains_fault d = first_of (domain_count_fault d.domains ∷ domain_name_fault d.domains ∷ domain_twice_fault d.domains
     ∷ channels_fault d.domains ∷ [])
 
+-- the first fault of the tiles
 abbrev pub tiles_fault : Draft → Option DescFault
 tiles_fault d = first_of (tile_range_fault (tile_count d.dims) d.tiles ∷ tile_twice_fault d.tiles
     ∷ host_unknown_fault d.domains d.tiles ∷ host_twice_fault d.tiles ∷ [])
 
+-- the first fault of the ranges
 abbrev pub ranges_fault : Draft → Option DescFault
 ranges_fault d = first_of (range_tile_fault (tile_count d.dims) d.ranges ∷ range_order_fault d.ranges
     ∷ range_overlap_fault d.ranges ∷ [])
@@ -39,9 +42,11 @@ pub record IsSized (p : Plan) : Type 0 where
 abbrev pub plan_fault : Plan → Option DescFault
 plan_fault p = first_of (places_fault (places p) ∷ attach_fault (length p.hosts) ∷ [])
 
+-- the fault of a network that is too large
 abbrev pub sizes_fault : Draft → Option DescFault
 sizes_fault d = plan_fault (plan_of_draft d)
 
+-- the first fault of the slots
 abbrev pub slots_fault : Draft → Option DescFault
 slots_fault d = first_of (slot_count_fault d.version d.slots ∷ slot_unknown_fault d.domains d.slots
     ∷ slot_missing_fault d.version d.domains d.slots ∷ [])

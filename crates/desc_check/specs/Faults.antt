@@ -31,6 +31,7 @@ abbrev pub has_sides : ℤ → List ℤ → Bool
 has_sides version dims = is_between 1 (sides_allowed version) (length dims) && list_all (is_within 1 most_side) dims
     && nat_le (tile_count dims) most_tiles
 
+-- the fault of the sides, in a description of this version
 abbrev pub dims_fault : ℤ → List ℤ → Option DescFault
 dims_fault version dims = fault_if (not (has_sides version dims)) Dims
 

@@ -18,12 +18,15 @@ use Rattle.desc_check.specs.Words.{number_of, is_among}
 abbrev pub tile_count : List ℤ → ℕ
 tile_count dims = product (map number_of dims)
 
+-- a domain of the plan, from the description's
 abbrev pub domain_of : DraftDomain → DomainPart
 domain_of x = record { name = x.name; channels = number_of x.channels }
 
+-- a range of the plan, from the description's
 abbrev pub range_of : DraftRange → Range
 range_of x = record { tile = number_of x.tile; first = number_of x.first; last = number_of x.last }
 
+-- the name of a domain, and none where there is no domain
 abbrev pub name_in : Option DraftDomain → List ℕ
 name_in None = []
 name_in (Some x) = x.name
@@ -55,6 +58,7 @@ abbrev pub slots_of : ℤ → List DraftDomain → List (List ℕ) → List ℕ
 slots_of version domains slots = if int_eq version (pos 1) then range_with_len 0 (length domains) else map
     (domain_number domains) slots
 
+-- the plan that an accepted description describes
 abbrev pub plan_of_draft : Draft → Plan
 plan_of_draft d = record {
   torus = bytes_eq d.shape (codes "torus");

@@ -13,9 +13,11 @@ use Rattle.noc_desc.specs.declared.DraftRange.{DraftRange}
 abbrev pub hosted_by : Plan → ℕ → List ℕ
 hosted_by p n = filter (hosts p n) (range_with_len 0 (length p.domains))
 
+-- tile n as the description has it: the names of the domains that it hosts
 abbrev pub tile_of : Plan → ℕ → DraftTile
 tile_of p n = record { at = pos n; domains = map (name_of p) (hosted_by p n) }
 
+-- whether tile n hosts a domain
 abbrev pub hosts_some : Plan → ℕ → Bool
 hosts_some p n = not (length (hosted_by p n) == 0)
 
@@ -23,12 +25,15 @@ hosts_some p n = not (length (hosted_by p n) == 0)
 abbrev pub hosting : Plan → List ℕ
 hosting p = filter (hosts_some p) (range_with_len 0 (tiles p))
 
+-- a domain as the description has it
 abbrev pub domain_draft : DomainPart → DraftDomain
 domain_draft x = record { name = x.name; channels = pos x.channels }
 
+-- a range as the description has it
 abbrev pub range_draft : Range → DraftRange
 range_draft x = record { tile = pos x.tile; first = pos x.first; last = pos x.last }
 
+-- the name of the shape
 abbrev pub shape_of : Plan → List ℕ
 shape_of p = if p.torus then codes "torus" else codes "mesh"
 

@@ -104,7 +104,7 @@ pub fn check(alloc: Global, draft: Draft) -> Result<Plan, DescFault>
     Ok(Plan::new(parts))
 }
 
-/// Writes the line that tells a fault, with its LF, to the front of `buf`, and answers its length in bytes: `surf:
+/// Writes the line of a fault, with its LF, to the front of `buf`, and answers its length in bytes: `surf:
 /// description fault N` and the fault's indices, each after a blank, or `surf: no memory`.
 pub fn fault_line(fault: &DescFault, buf: &mut [u8; 96]) -> usize
     ensures written { take result buf.new ≡ line_of fault.now }

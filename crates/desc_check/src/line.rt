@@ -1,4 +1,4 @@
-//! The line that tells a fault.
+//! The line that is printed for a fault.
 
 ghost use Rattle.std.specs.Prelude.{◌≡◌, ◌≤◌, ◌+◌, ◌*◌, ◌++◌, ◌∷◌, [], length, take, IfSome};
 ghost use Rattle.std.specs.Fmt.{decimal as decimal_digits};

@@ -6,12 +6,14 @@
 #![tactic(auto)]
 
 ghost use Rattle.std.specs.Prelude.{◌≡◌, ◌≢◌, ◌<◌, ◌≤◌, ◌+◌, ◌-◌, ◌*◌, ◌%◌, length, IsTrue, if◌then◌else◌, nat_lt, ◌&&◌};
+ghost use Rattle.noc_model.specs.Limits.{most_side, most_sides};
 ghost use Rattle.noc_model.specs.Plan.{tiles, ports, classes};
 ghost use Rattle.noc_model.specs.declared.ways.Way.TheVariants.{Plus, Minus};
 ghost use Rattle.noc_model.specs.Place.{route, class_after, rank, goes_plus, is_wrap, is_same_dim, are_edges, next_in, last_in, position};
 
 pub mod laws;
 
+use noc_model::limits::MOST_SIDE;
 use noc_model::{Plan, Way};
 
 /// The port by which a flit for tile `dest` leaves tile `at`, the local port, 0, where it is there (dimension-order
@@ -35,7 +37,7 @@ pub fn route(plan: &Plan, at: u32, dest: u32) -> u32
 
 /// Whether the way from the coordinate `x` to another, `y`, is by plus.
 fn goes_plus(torus: bool, k: u32, x: u32, y: u32) -> bool
-    requires side { k ≤ 16 }
+    requires side { k ≤ most_side }
     requires here { x < k }
     requires there { y < k }
     ensures { result ≡ goes_plus torus k x y }
@@ -134,20 +136,20 @@ pub fn rank(plan: &Plan, at: u32, out_port: u32, class: u32) -> u32
 /// The rank of the channels of a class on the link of dimension `i` that leaves the `x`-th of `k` tiles from the edge
 /// on.
 fn rank_on(i: u32, k: u32, x: u32, class: u32) -> u32
-    requires dim { i < 3 }
+    requires dim { i < most_sides }
     requires within { x < k }
-    requires side { k ≤ 16 }
+    requires side { k ≤ most_side }
     requires class { class < 2 }
-    ensures value { result ≡ (2 * i + class) * 16 + position k x class }
+    ensures value { result ≡ (2 * i + class) * most_side + position k x class }
     ensures few { result < 96 }
 {
-    (2 * i + class) * 16 + position(k, x, class)
+    (2 * i + class) * MOST_SIDE + position(k, x, class)
 }
 
 /// How far along its ring of `k` a link stands that leaves the `x`-th tile, in channels of a class.
 fn position(k: u32, x: u32, class: u32) -> u32
     requires within { x < k }
-    requires side { k ≤ 16 }
+    requires side { k ≤ most_side }
     ensures value { result ≡ position k x class }
     ensures below { result < k }
 {

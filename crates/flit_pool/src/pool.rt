@@ -1,7 +1,8 @@
 //! Lists of flits over one vector of nodes.
 
 ghost use Rattle.std.specs.Prelude.{◌≡◌, ◌<◌, ◌≤◌, ◌*◌, ◌^◌, ℕ, [], ◌∷◌, ◌++◌, length, slice_set, slice_get, replicate, drop, OnOk, IfOk, IfErr, IfSome, IfNone};
-ghost use Rattle.flit_pool.specs.Lists.{list_at};
+ghost use Rattle.noc_model.specs.Limits.{most_buffer};
+ghost use Rattle.flit_pool.specs.Lists.{list_at, most_lists};
 
 use crate::steps::{
     Node, Queue, empty_queues, joined, left, link, node_at, put_flit, put_next, vacant_nodes,
@@ -38,8 +39,8 @@ impl Pool {
     ///
     /// When memory runs out.
     pub fn new(alloc: Global, queues: u32, depth: u32) -> Result<Pool, AllocError>
-        requires few { queues ≤ 65536 }
-        requires shallow { depth ≤ 16 }
+        requires few { queues ≤ most_lists }
+        requires shallow { depth ≤ most_buffer }
         ensures lists { IfOk result (λ pool. pool.lists ≡ replicate queues []) }
         ensures depth { IfOk result (λ pool. pool.depth ≡ depth) }
     {

@@ -1,6 +1,7 @@
 //! A ring of numbers, linked both ways by index.
 
-ghost use Rattle.std.specs.Prelude.{◌≡◌, ◌+◌, ◌<◌, ◌^◌, ℕ, true, false, [], ◌∷◌, ◌++◌, length, slice_set, slice_get, replicate, Some, IfOk};
+ghost use Rattle.std.specs.Prelude.{◌≡◌, ◌+◌, ◌<◌, ◌≤◌, ◌^◌, ℕ, true, false, [], ◌∷◌, ◌++◌, length, slice_set, slice_get, replicate, Some, IfOk};
+ghost use Rattle.flit_pool.specs.Chains.{times};
 ghost use Rattle.flit_pool.specs.Ring.{has, without, link_at, with_next, with_before};
 
 use std::alloc::{AllocError, Global};
@@ -102,6 +103,14 @@ impl Ring {
             size,
             count: 0,
         })
+    }
+
+    /// Lets callers' proofs use that each number of the ring is below its size, and is in it once. It does nothing.
+    pub fn known(&self)
+        ensures below { (i : ℕ) → has self.now i ≡ true → i < self.now.size }
+        ensures once { (i : ℕ) → times i self.now.items ≤ 1 }
+    {
+        let _ = &self.links;
     }
 
     /// Whether the number is in the ring.

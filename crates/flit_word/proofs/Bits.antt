@@ -6,8 +6,8 @@ use Rattle.std.proofs.lemmas.Nat.{mul-add-lt, pow-add}
 use Rattle.std.proofs.lemmas.Bool.{cases_lt}
 use Rattle.std.proofs.lemmas.Bool.Decides.{nat_tests}
 use Rattle.noc_model.specs.declared.plan.DomainPart.{DomainPart}
-use Rattle.noc_model.specs.Plan.{Plan, channels_in, lanes, classes}
-use Rattle.flit_word.specs.Words.{bits_from, bits, most_channels, most_lanes}
+use Rattle.noc_model.specs.Plan.{Plan, channels_in, link_channels, classes}
+use Rattle.flit_word.specs.Words.{bits_from, bits, max_channels, max_link_channels}
 
 if-true : (b : Bool) (x y : ℕ) → b ≡ true → (if b then x else y) ≡ x
 if-true true x y e = refl
@@ -55,22 +55,22 @@ bits-is n b some enough before = from-is n 1 n b some (high b some before) enoug
 -- ---- the most channels
 
 pub most-take : (k : ℕ) (xs : List DomainPart) (d : ℕ) → d < length xs
-    → most_channels k (take (d + 1) xs) ≡ max (most_channels k (take d xs)) (k * channels_in (slice_get xs d))
-most-take k xs d there = ap (λ n. most_channels k (take n xs)) (let e : d + 1 ≡ suc d = omega arith in e) ∙ go xs d there
+    → max_channels k (take (d + 1) xs) ≡ max (max_channels k (take d xs)) (k * channels_in (slice_get xs d))
+most-take k xs d there = ap (λ n. max_channels k (take n xs)) (let e : d + 1 ≡ suc d = omega arith in e) ∙ go xs d there
   where
-    go : (xs : List DomainPart) (d : ℕ) → d < length xs → most_channels k (take (suc d) xs) ≡ max (most_channels k (take d xs)) (k * channels_in (slice_get xs d))
+    go : (xs : List DomainPart) (d : ℕ) → d < length xs → max_channels k (take (suc d) xs) ≡ max (max_channels k (take d xs)) (k * channels_in (slice_get xs d))
     go [] d there = absurd (omega (arith, there))
     go (x ∷ xs) zero there = omega arith
     go (x ∷ xs) (suc d) there = let rest = go xs d (omega (arith, there)) in omega (arith, rest)
 
-pub most-one : (k : ℕ) (xs : List DomainPart) (d : ℕ) → k * channels_in (slice_get xs d) ≤ most_channels k xs
+pub most-one : (k : ℕ) (xs : List DomainPart) (d : ℕ) → k * channels_in (slice_get xs d) ≤ max_channels k xs
 most-one k [] d = omega arith
 most-one k (x ∷ xs) zero = omega arith
 most-one k (x ∷ xs) (suc d) = let rest = most-one k xs d in omega (arith, rest)
 
 -- a domain's channels are no more than the most
-pub lanes-most : (p : Plan) (d : ℕ) → lanes p d ≤ most_lanes p
-lanes-most p d = most-one (classes p) p.domains d
+pub link_channels-most : (p : Plan) (d : ℕ) → link_channels p d ≤ max_link_channels p
+link_channels-most p d = most-one (classes p) p.domains d
 
 -- ---- the parts of a word
 
@@ -90,7 +90,7 @@ above-fits low_bits high low h few l =
 pub least-is : (n b : ℕ) → ((c : ℕ) → 1 ≤ c → c < b → 2 ^ c < n) → (c : ℕ) → 1 ≤ c → n ≤ 2 ^ c → b ≤ c
 least-is n b before c some enough = ⊎_elim (λ (less : c < b). let past = before c some less in absurd (omega (arith, past, enough))) (λ (more : b ≤ c). more) (cases_lt c b)
 
-pub most-all : (k : ℕ) (xs : List DomainPart) (d : ℕ) → length xs ≤ d → most_channels k (take d xs) ≡ most_channels k xs
+pub most-all : (k : ℕ) (xs : List DomainPart) (d : ℕ) → length xs ≤ d → max_channels k (take d xs) ≡ max_channels k xs
 most-all k [] zero past = refl
 most-all k [] (suc d) past = refl
 most-all k (x ∷ xs) zero past = absurd (omega (arith, past))

@@ -8,7 +8,7 @@ use Rattle.noc_model.specs.Step.{one_if}
 
 -- ---- widths
 
--- the least b, of those from this one on, with n at most two to b. It is below 1 + n
+-- the least b, of those from this one on, with n at most two to b, where so many are tried
 abbrev pub bits_from : ℕ → ℕ → ℕ → ℕ
 bits_from zero b n = b
 bits_from (suc fuel) b n = if nat_le n (2 ^ b) then b else bits_from fuel (b + 1) n
@@ -22,17 +22,17 @@ abbrev pub dest_bits : Plan → ℕ
 dest_bits p = bits (tiles p)
 
 -- the greatest number of channels that one of the domains has on a link, with so many classes
-abbrev pub most_channels : ℕ → List DomainPart → ℕ
-most_channels class_count [] = 0
-most_channels class_count (x ∷ xs) = max (class_count * x.channels) (most_channels class_count xs)
+abbrev pub max_channels : ℕ → List DomainPart → ℕ
+max_channels class_count [] = 0
+max_channels class_count (x ∷ xs) = max (class_count * x.channels) (max_channels class_count xs)
 
 -- the greatest number of channels of one domain on a link
-abbrev pub most_lanes : Plan → ℕ
-most_lanes p = most_channels (classes p) p.domains
+abbrev pub max_link_channels : Plan → ℕ
+max_link_channels p = max_channels (classes p) p.domains
 
 -- the bits of a channel's number on a link
 abbrev pub channel_bits : Plan → ℕ
-channel_bits p = bits (most_lanes p)
+channel_bits p = bits (max_link_channels p)
 
 -- head, tail, destination, payload
 abbrev pub flit_bits : Plan → ℕ

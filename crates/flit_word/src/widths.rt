@@ -1,14 +1,15 @@
 //! The widths of words.
 
-ghost use Rattle.std.specs.Prelude.{◌≡◌, ◌<◌, ◌≤◌, ◌*◌, ◌^◌, ℕ, length, max};
-ghost use Rattle.noc_model.specs.Plan.{tiles, classes, channels};
-ghost use Rattle.flit_word.specs.Words.{bits, dest_bits, channel_bits, flit_bits, link_bits, most_lanes};
+ghost use Rattle.std.specs.Prelude.{◌≡◌, ◌<◌, ◌≤◌, ◌^◌, ℕ, max};
+ghost use Rattle.noc_model.specs.Limits.{most_tiles};
+ghost use Rattle.noc_model.specs.Plan.{tiles};
+ghost use Rattle.flit_word.specs.Words.{bits, dest_bits, channel_bits, flit_bits, link_bits, max_link_channels};
 
 use noc_model::Plan;
 
 /// The least number of bits, at least 1, in which `n` numbers can be told apart.
 fn bits(n: u32) -> u32
-    requires { n ≤ 256 }
+    requires { n ≤ most_tiles }
     ensures value { result ≡ bits n }
     ensures few { result ≤ 8 }
     ensures enough { n ≤ 2 ^ result }
@@ -39,35 +40,15 @@ fn greater(a: u32, b: u32) -> u32
     if a < b { b } else { a }
 }
 
-/// The channels of domain `d` on a link, at most 8.
-fn lanes(plan: &Plan, d: u32) -> u32
-    requires { d < length plan.now.domains }
-    ensures value { result ≡ classes plan.now * channels plan.now d }
-    ensures few { result ≤ 8 }
-{
-    plan.known();
-    plan.classes() * class_channels(plan, d)
-}
-
-/// Its channels of one class, at most 4.
-fn class_channels(plan: &Plan, d: u32) -> u32
-    requires { d < length plan.now.domains }
-    ensures value { result ≡ channels plan.now d }
-    ensures few { result ≤ 4 }
-{
-    plan.known();
-    plan.channels(d)
-}
-
 /// The greatest number of channels of one domain on a link, at most 8.
-fn most_lanes(plan: &Plan) -> u32
-    ensures value { result ≡ most_lanes plan.now }
+fn max_link_channels(plan: &Plan) -> u32
+    ensures value { result ≡ max_link_channels plan.now }
     ensures few { result ≤ 8 }
 {
     plan.known();
     let mut most = 0;
     for d in 0..plan.domains() {
-        most = greater(most, lanes(plan, d));
+        most = greater(most, plan.link_channels(d));
     }
     most
 }
@@ -76,9 +57,9 @@ fn most_lanes(plan: &Plan) -> u32
 pub fn channel_bits(plan: &Plan) -> u32
     ensures value { result ≡ channel_bits plan.now }
     ensures few { result ≤ 3 }
-    ensures enough { most_lanes plan.now ≤ 2 ^ result }
+    ensures enough { max_link_channels plan.now ≤ 2 ^ result }
 {
-    bits(most_lanes(plan))
+    bits(max_link_channels(plan))
 }
 
 /// The bits of a flit's word, 35 to 42.

@@ -4,7 +4,7 @@ ghost use Rattle.std.specs.Prelude.{◌≡◌, ◌<◌, ◌≤◌, ◌^◌, ◌+
 ghost use Rattle.noc_model.specs.declared.Flit.{Flit as FlitValue};
 ghost use Rattle.noc_model.specs.Plan.{tiles};
 ghost use Rattle.noc_model.specs.Step.{one_if};
-ghost use Rattle.flit_word.specs.Words.{flit_bits, link_bits, most_lanes, above, flit_word, link_word};
+ghost use Rattle.flit_word.specs.Words.{flit_bits, link_bits, max_link_channels, above, flit_word, link_word};
 
 use crate::widths::{channel_bits, dest_bits, flit_bits};
 use noc_model::{Flit, LinkFlit, Plan};
@@ -58,7 +58,7 @@ pub fn of_word(plan: &Plan, word: u64) -> Flit
 /// the channel and the flit's word.
 pub fn to_link(plan: &Plan, item: Option<LinkFlit>) -> u64
     requires dest { IfSome item (λ x. x.flit.dest < tiles plan.now) }
-    requires channel { IfSome item (λ x. x.channel < most_lanes plan.now) }
+    requires channel { IfSome item (λ x. x.channel < max_link_channels plan.now) }
     ensures value { result ≡ link_word plan.now item }
     ensures few { result < 2 ^ link_bits plan.now }
 {

@@ -27,6 +27,7 @@ abbrev pub items_by : {A : Type 0} → (A → Data) → List A → Items
 items_by f [] = no_items
 items_by f (x ∷ xs) = item (f x) (items_by f xs)
 
+-- an array, entry by entry
 abbrev pub array_by : {A : Type 0} → (A → Data) → List A → Data
 array_by f xs = array (items_by f xs)
 
@@ -34,6 +35,7 @@ array_by f xs = array (items_by f xs)
 abbrev pub domain_members : DraftDomain → Members
 domain_members d = put Name (string d.name) (put Channels (integer d.channels) no_members)
 
+-- the table of a domain
 abbrev pub domain_data : DraftDomain → Data
 domain_data d = table (domain_members d)
 
@@ -41,6 +43,7 @@ domain_data d = table (domain_members d)
 abbrev pub tile_members : DraftTile → Members
 tile_members t = put Hosts (array_by string t.domains) (put At (integer t.at) no_members)
 
+-- the table of a tile
 abbrev pub tile_data : DraftTile → Data
 tile_data t = table (tile_members t)
 
@@ -48,6 +51,7 @@ tile_data t = table (tile_members t)
 abbrev pub range_members : DraftRange → Members
 range_members r = put InTile (integer r.tile) (put Last (integer r.last) (put First (integer r.first) no_members))
 
+-- the table of a range
 abbrev pub range_data : DraftRange → Data
 range_data r = table (range_members r)
 
@@ -57,6 +61,7 @@ sizes_of d =
     put Version (integer d.version) (put Shape (string d.shape) (put Dims (array_by integer d.dims)
     (put Stages (integer d.stages) (put Buffer (integer d.buffer) no_members))))
 
+-- the members, and the lists of the description at their keys
 abbrev pub lists_of : Draft → Members → Members
 lists_of d members =
     put Slots (array_by string d.slots) (put Ranges (array_by range_data d.ranges)

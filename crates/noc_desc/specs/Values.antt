@@ -41,9 +41,11 @@ texts (item _ more) = texts more
 abbrev pub number_at : Key → Members → ℤ
 number_at key members = number (value_at key members)
 
+-- the text of a key
 abbrev pub text_at : Key → Members → List ℕ
 text_at key members = text (value_at key members)
 
+-- the elements of a key's array
 abbrev pub elements_at : Key → Members → Items
 elements_at key members = elements (value_at key members)
 

@@ -212,6 +212,10 @@ fn put_lists(alloc: Global, table: &mut Table, draft: &Draft) -> Result<(), Allo
 ///
 /// Its texts are UTF-8. The document is the printer's: keys in their order, and a table for each domain, tile and
 /// range.
+///
+/// # Errors
+///
+/// When memory runs out.
 pub fn write_draft(alloc: Global, draft: &Draft) -> Result<Vec<u8>, AllocError>
     requires { AreTexts draft.now }
     ensures table { IfOk result (λ bytes. table_of bytes.items ≡ Some (document draft.now)) }

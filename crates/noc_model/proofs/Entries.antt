@@ -6,7 +6,7 @@ use Rattle.noc_model.specs.declared.Flit.{Flit}
 use Rattle.noc_model.specs.declared.LinkFlit.{LinkFlit}
 use Rattle.noc_model.specs.declared.Grant.{Grant}
 use Rattle.noc_model.specs.declared.Stage.TheVariants.{Routed, Active}
-use Rattle.noc_model.specs.Plan.{Plan, lanes, in_channels}
+use Rattle.noc_model.specs.Plan.{Plan, link_channels, in_channels}
 use Rattle.noc_model.specs.Tile.{Tile, TileIn}
 use Rattle.noc_model.specs.Step.{grant, is_channel, leaves, front, with_channel, sent, is_on, is_tail, is_tail_on, flit_on, tile_step}
 use Rattle.noc_model.specs.Holder.{IsHolder, HasHolder, IsHeldTile, holder_of}
@@ -19,18 +19,18 @@ use Rattle.noc_model.proofs.Packets.{moved_on, FrontStands, stays-put}
 
 -- where the holder of an output channel stands, and between packets if there is none
 abbrev pub entry_at : Plan → ℕ → Tile → (ℕ → ℕ → Option ℕ) → ℕ → ℕ → Option ℕ
-entry_at p d s g o w = option_and_then (λ k. g (k / lanes p d) (k % lanes p d)) (holder_of p d s o w)
+entry_at p d s g o w = option_and_then (λ k. g (k / link_channels p d) (k % link_channels p d)) (holder_of p d s o w)
 
 pub entry-holder : (p : Plan) (d n : ℕ) (s : Tile) (g : ℕ → ℕ → Option ℕ) (o w port c : ℕ) → IsHeldTile p d n s → IsHolder p d s o w port c → entry_at p d s g o w ≡ g port c
 entry-holder p d n s g o w port c right is =
     let within = input-within p d port c is.below in
-    ap (option_and_then (λ k. g (k / lanes p d) (k % lanes p d))) (holder_of-is p d n s o w port c right is)
-    ∙ ap (λ k. g k ((port * lanes p d + c) % lanes p d)) (port-place p d port c within) ∙ ap (g port) (channel-place p d port c within)
+    ap (option_and_then (λ k. g (k / link_channels p d) (k % link_channels p d))) (holder_of-is p d n s o w port c right is)
+    ∙ ap (λ k. g k ((port * link_channels p d + c) % link_channels p d)) (port-place p d port c within) ∙ ap (g port) (channel-place p d port c within)
 
 pub entry-free : (p : Plan) (d n : ℕ) (s : Tile) (g : ℕ → ℕ → Option ℕ) (o w : ℕ) → IsHeldTile p d n s → s.held o w ≡ false → entry_at p d s g o w ≡ None
 entry-free p d n s g o w right free = go (holder_of p d s o w) refl
   where
-    go : (k : Option ℕ) → holder_of p d s o w ≡ k → option_and_then (λ k. g (k / lanes p d) (k % lanes p d)) k ≡ None
+    go : (k : Option ℕ) → holder_of p d s o w ≡ k → option_and_then (λ k. g (k / link_channels p d) (k % link_channels p d)) k ≡ None
     go None e = refl
     go (Some k) e = absurd (let is = held-is_some p d n s o w right in let some : is_some (holder_of p d s o w) ≡ true = ap is_some e in cc (is, some, free))
 

@@ -1,6 +1,7 @@
 pub mod Coords
 pub mod Plans
 pub mod Named
+pub mod DomainNames
 pub mod HostTiles
 pub mod Driven
 pub mod Everything

@@ -7,7 +7,7 @@ use Rattle.noc_model.specs.declared.LinkFlit.{LinkFlit}
 use Rattle.noc_model.specs.declared.Grant.{Grant}
 use Rattle.noc_model.specs.declared.Stage.{Stage}
 use Rattle.noc_model.specs.declared.Stage.TheVariants.{Idle, Routed, Active}
-use Rattle.noc_model.specs.Plan.{Plan, lanes}
+use Rattle.noc_model.specs.Plan.{Plan, link_channels}
 use Rattle.noc_model.specs.Place.{route}
 use Rattle.noc_model.specs.Tile.{Tile, TileIn}
 use Rattle.noc_model.specs.Step.{routed, winner, is_place, taken_channel, activated, grant, is_channel, leaves, front, is_tail, flit_on, one_if, next_stage, shifted}
@@ -133,6 +133,6 @@ front-next p d n t s i port c a more fits stands = go (s.stage port c) refl stan
     go : (st : Stage) → s.stage port c ≡ st → FrontStands p n a (s.queue port c) st
         → FrontStands p n (moved_on (leaves p d n t s i port c) (s.queue port c) a) (drop (one_if (leaves p d n t s i port c)) (s.queue port c) ++ more) (next_stage p d n t s i port c st)
     go Idle e h = subst (λ b. Next b (routed p n (s.queue port c) Idle)) (sym (stays-put p d n t s i port c (not_active-idle e))) (first (s.queue port c) h)
-    go (Routed o) e h = subst (λ b. Next b (activated (is_place (winner p d n s o) (port * lanes p d + c)) o (taken_channel p d n s o))) (sym (stays-put p d n t s i port c (not_active-routed o e)))
-        (within (is_place (winner p d n s o) (port * lanes p d + c)) (taken_channel p d n s o) o a (s.queue port c ++ more) h.0 (head-stays p n o (s.queue port c) more h.1))
+    go (Routed o) e h = subst (λ b. Next b (activated (is_place (winner p d n s o) (port * link_channels p d + c)) o (taken_channel p d n s o))) (sym (stays-put p d n t s i port c (not_active-routed o e)))
+        (within (is_place (winner p d n s o) (port * link_channels p d + c)) (taken_channel p d n s o) o a (s.queue port c ++ more) h.0 (head-stays p n o (s.queue port c) more h.1))
     go (Active o w) e h = on o w (leaves p d n t s i port c) a (s.queue port c) (leaves-front p d n t s i port c) fits h

@@ -7,7 +7,7 @@ use Rattle.noc_model.specs.declared.Offer.{Offer}
 use Rattle.noc_model.specs.declared.Grant.{Grant}
 use Rattle.noc_model.specs.declared.Stage.{Stage}
 use Rattle.noc_model.specs.declared.Stage.TheVariants.{Idle, Routed, Active}
-use Rattle.noc_model.specs.Plan.{Plan, channels, lanes, classes, in_channels, out_channels, ports, at_local, hosts}
+use Rattle.noc_model.specs.Plan.{Plan, channels, link_channels, classes, in_channels, out_channels, ports, at_local, hosts}
 use Rattle.noc_model.specs.Place.{neighbour, owner}
 use Rattle.noc_model.specs.Pick.{pick}
 use Rattle.noc_model.specs.Tile.{Tile, TileIn}
@@ -75,18 +75,18 @@ free_for-same p d n a b o port c same there below =
     (class-few p n port (c / channels p d) o (channel-class p d port c below)) (class-zero p d n port c o)
 
 candidate-same : (p : Plan) (d n : ℕ) (a b : Tile) (i j : TileIn) (o k : ℕ) → AreTwins p d n a b i j → IsOutput p n o → is_candidate p d n a o k ≡ is_candidate p d n b o k
-candidate-same p d n a b i j o k twins there = go (nat_lt (k % lanes p d) (in_channels p d (k / lanes p d))) refl
+candidate-same p d n a b i j o k twins there = go (nat_lt (k % link_channels p d) (in_channels p d (k / link_channels p d))) refl
   where
     low : (x y : ℕ) → nat_lt x y ≡ true → x < y
     low x y e = grind (arith, nat_tests)
 
-    go : (r : Bool) → nat_lt (k % lanes p d) (in_channels p d (k / lanes p d)) ≡ r → is_candidate p d n a o k ≡ is_candidate p d n b o k
+    go : (r : Bool) → nat_lt (k % link_channels p d) (in_channels p d (k / link_channels p d)) ≡ r → is_candidate p d n a o k ≡ is_candidate p d n b o k
     go false e =
-        ap (λ r. r && (waits_for (a.stage (k / lanes p d) (k % lanes p d)) o && is_some (free_for p d n a o (k / lanes p d) (k % lanes p d)))) e
-        ∙ sym (ap (λ r. r && (waits_for (b.stage (k / lanes p d) (k % lanes p d)) o && is_some (free_for p d n b o (k / lanes p d) (k % lanes p d)))) e)
+        ap (λ r. r && (waits_for (a.stage (k / link_channels p d) (k % link_channels p d)) o && is_some (free_for p d n a o (k / link_channels p d) (k % link_channels p d)))) e
+        ∙ sym (ap (λ r. r && (waits_for (b.stage (k / link_channels p d) (k % link_channels p d)) o && is_some (free_for p d n b o (k / link_channels p d) (k % link_channels p d)))) e)
     go true e =
-        let port : ℕ = k / lanes p d in
-        let c : ℕ = k % lanes p d in
+        let port : ℕ = k / link_channels p d in
+        let c : ℕ = k % link_channels p d in
         let below : c < in_channels p d port = low c (in_channels p d port) e in
         ap (λ x. nat_lt c (in_channels p d port) && (waits_for x o && is_some (free_for p d n a o port c))) (stage-all p d n a b i j port c twins below)
         ∙ ap (λ x. nat_lt c (in_channels p d port) && (waits_for (b.stage port c) o && is_some x)) (free_for-same p d n a b o port c twins.same there below)
@@ -94,17 +94,17 @@ candidate-same p d n a b i j o k twins there = go (nat_lt (k % lanes p d) (in_ch
 winner-same : (p : Plan) (d n : ℕ) (a b : Tile) (i j : TileIn) (o : ℕ) → AreTwins p d n a b i j → IsOutput p n o → winner p d n a o ≡ winner p d n b o
 unfolding winner
 winner-same p d n a b i j o twins there =
-    pick-same (ports p * lanes p d) (is_candidate p d n a o) (is_candidate p d n b o) (a.allocation o) (b.allocation o)
+    pick-same (ports p * link_channels p d) (is_candidate p d n a o) (is_candidate p d n b o) (a.allocation o) (b.allocation o)
     (λ k below. candidate-same p d n a b i j o k twins there) (twins.same.allocation o there)
 
-winner-below : (p : Plan) (d n : ℕ) (s : Tile) (o k : ℕ) → winner p d n s o ≡ Some k → k % lanes p d < in_channels p d (k / lanes p d)
+winner-below : (p : Plan) (d n : ℕ) (s : Tile) (o k : ℕ) → winner p d n s o ≡ Some k → k % link_channels p d < in_channels p d (k / link_channels p d)
 unfolding winner
-winner-below p d n s o k e = first (nat_lt (k % lanes p d) (in_channels p d (k / lanes p d))) refl (pick-member (ports p * lanes p d) (is_candidate p d n s o) (s.allocation o) k e).1
+winner-below p d n s o k e = first (nat_lt (k % link_channels p d) (in_channels p d (k / link_channels p d))) refl (pick-member (ports p * link_channels p d) (is_candidate p d n s o) (s.allocation o) k e).1
   where
-    first : (r : Bool) → nat_lt (k % lanes p d) (in_channels p d (k / lanes p d)) ≡ r
-        → (r && (waits_for (s.stage (k / lanes p d) (k % lanes p d)) o && is_some (free_for p d n s o (k / lanes p d) (k % lanes p d)))) ≡ true
-        → k % lanes p d < in_channels p d (k / lanes p d)
-    first true is h = low (k % lanes p d) (in_channels p d (k / lanes p d)) is
+    first : (r : Bool) → nat_lt (k % link_channels p d) (in_channels p d (k / link_channels p d)) ≡ r
+        → (r && (waits_for (s.stage (k / link_channels p d) (k % link_channels p d)) o && is_some (free_for p d n s o (k / link_channels p d) (k % link_channels p d)))) ≡ true
+        → k % link_channels p d < in_channels p d (k / link_channels p d)
+    first true is h = low (k % link_channels p d) (in_channels p d (k / link_channels p d)) is
       where
         low : (x y : ℕ) → nat_lt x y ≡ true → x < y
         low x y e = grind (arith, nat_tests)
@@ -113,9 +113,9 @@ winner-below p d n s o k e = first (nat_lt (k % lanes p d) (in_channels p d (k /
 taken-same : (p : Plan) (d n : ℕ) (a b : Tile) (i j : TileIn) (o : ℕ) → AreTwins p d n a b i j → IsOutput p n o → taken_channel p d n a o ≡ taken_channel p d n b o
 unfolding taken_channel
 taken-same p d n a b i j o twins there =
-    then-same (λ k. free_for p d n a o (k / lanes p d) (k % lanes p d)) (λ k. free_for p d n b o (k / lanes p d) (k % lanes p d)) (winner p d n a o) (winner p d n b o)
+    then-same (λ k. free_for p d n a o (k / link_channels p d) (k % link_channels p d)) (λ k. free_for p d n b o (k / link_channels p d) (k % link_channels p d)) (winner p d n a o) (winner p d n b o)
     (winner-same p d n a b i j o twins there)
-    (λ k e. free_for-same p d n a b o (k / lanes p d) (k % lanes p d) twins.same there (winner-below p d n b o k e))
+    (λ k e. free_for-same p d n a b o (k / link_channels p d) (k % link_channels p d) twins.same there (winner-below p d n b o k e))
 
 -- ---- the switch
 
@@ -259,8 +259,8 @@ stage-next-same : (p : Plan) (d n : ℕ) (t : ℤ) (a b : Tile) (i j : TileIn) (
     → next_stage p d n t a i port c s ≡ next_stage p d n t b j port c s
 stage-next-same p d n t a b i j port c Idle twins below h = ap (λ fs. routed p n fs Idle) (queue-all p d n a b i j port c twins below)
 stage-next-same p d n t a b i j port c (Routed o) twins below h =
-    ap (λ w. activated (is_place w (port * lanes p d + c)) o (taken_channel p d n a o)) (winner-same p d n a b i j o twins h)
-    ∙ ap (activated (is_place (winner p d n b o) (port * lanes p d + c)) o) (taken-same p d n a b i j o twins h)
+    ap (λ w. activated (is_place w (port * link_channels p d + c)) o (taken_channel p d n a o)) (winner-same p d n a b i j o twins h)
+    ∙ ap (activated (is_place (winner p d n b o) (port * link_channels p d + c)) o) (taken-same p d n a b i j o twins h)
 stage-next-same p d n t a b i j port c (Active o w) twins below h =
     ap (λ x. if x && is_tail (front (a.queue port c)) then Idle else Active o w) (leaves-same p d n t a b i j port c twins)
     ∙ ap (λ fs. if leaves p d n t b j port c && is_tail (front fs) then Idle else Active o w) (queue-all p d n a b i j port c twins below)
@@ -285,7 +285,7 @@ held-next p d n t a b i j o w twins there below =
 linked : (p : Plan) (n o m : ℕ) → neighbour p n o ≡ Some m → IsOutput p n o
 linked p n o m e = inr (ap is_some e)
 
-credits-next : (p : Plan) (d n : ℕ) (t : ℤ) (a b : Tile) (i j : TileIn) (o m w : ℕ) → AreTwins p d n a b i j → neighbour p n o ≡ Some m → w < lanes p d
+credits-next : (p : Plan) (d n : ℕ) (t : ℤ) (a b : Tile) (i j : TileIn) (o m w : ℕ) → AreTwins p d n a b i j → neighbour p n o ≡ Some m → w < link_channels p d
     → (tile_step p d n t a i).credits o w ≡ (tile_step p d n t b j).credits o w
 unfolding tile_step
 credits-next p d n t a b i j o m w twins e below =

@@ -5,7 +5,7 @@ use Rattle.std.proofs.lemmas.Bool.Decides.{nat_tests}
 use Rattle.noc_model.specs.declared.Flit.{Flit}
 use Rattle.noc_model.specs.declared.Host.{Host}
 use Rattle.noc_model.specs.declared.Stage.TheVariants.{Idle}
-use Rattle.noc_model.specs.Plan.{Plan, tiles, hosts, lanes, in_channels, attach_of}
+use Rattle.noc_model.specs.Plan.{Plan, tiles, hosts, link_channels, in_channels, attach_of}
 use Rattle.noc_model.specs.Sound.{IsSound}
 use Rattle.noc_model.specs.Place.{neighbour, opposite}
 use Rattle.noc_model.specs.Tile.{Tile, TileIn}
@@ -36,7 +36,7 @@ arrival-same p d n port a b sound inside same =
     then-same (λ m. last_place p (a m) (opposite port)) (λ m. last_place p (b m) (opposite port)) (neighbour p n port) (neighbour p n port) refl
     (λ m e. last-same p d n port m a b sound inside same e)
 
-return-same : (p : Plan) (d n o m w : ℕ) (a b : State) → IsSound p → n < tiles p → IsSameState p d a b → neighbour p n o ≡ Some m → w < lanes p d
+return-same : (p : Plan) (d n o m w : ℕ) (a b : State) → IsSound p → n < tiles p → IsSameState p d a b → neighbour p n o ≡ Some m → w < link_channels p d
     → return_of p a n o w ≡ return_of p b n o w
 unfolding return_of
 return-same p d n o m w a b sound inside same e below =

@@ -12,7 +12,7 @@ use Rattle.noc_model.specs.declared.Stage.{Stage}
 use Rattle.noc_model.specs.declared.Stage.TheVariants.{Idle, Routed, Active}
 use Rattle.noc_model.specs.declared.Packet.{Packet}
 use Rattle.noc_model.specs.declared.Packet.TheVariants.{Between, Passing, Dropping}
-use Rattle.noc_model.specs.Plan.{Plan, channels, lanes, out_channels, hosts, hosted_tile, range_of}
+use Rattle.noc_model.specs.Plan.{Plan, channels, link_channels, out_channels, hosts, hosted_tile, range_of}
 use Rattle.noc_model.specs.Place.{neighbour, owner}
 use Rattle.noc_model.specs.Tile.{Tile, TileIn}
 use Rattle.noc_model.specs.Step.{routed, is_place, winner, taken_channel, activated, leaves, is_tail, front, sent, next_stage, shifted, is_ready_packet, is_open, word_in, goes_to, packet_for, next_packet, entry, entry_of, is_first, next_current, comes_in, flit_on, next_ejected, one_if, tile_step}
@@ -94,20 +94,20 @@ active-few p d n Idle o w h e = absurd (cc e)
 active-few p d n (Routed to) o w h e = absurd (cc e)
 active-few p d n (Active to v) o w h e = let out : to ≡ o = cc in let at : v ≡ w = cc in rw (← out, ← at) h.1
 
-link-lanes : (p : Plan) (d o w : ℕ) → o ≢ 0 → w < out_channels p d o → w < lanes p d
-link-lanes p d zero w link h = absurd (link refl)
-link-lanes p d (suc o) w link h = h
+link-channel_few : (p : Plan) (d o w : ℕ) → o ≢ 0 → w < out_channels p d o → w < link_channels p d
+link-channel_few p d zero w link h = absurd (link refl)
+link-channel_few p d (suc o) w link h = h
 
 few-there : (p : Plan) (d o o' w w' : ℕ) → o' ≡ o → w' ≡ w → w' < out_channels p d o' → w < out_channels p d o
 few-there p d o o' w w' out to few = rw (← out, ← to) few
 
 sent-channel : (p : Plan) (d n : ℕ) (t : ℤ) (s : Tile) (i : TileIn) (o : ℕ) (x : LinkFlit) → ((port c : ℕ) → HasOutput p d n (s.stage port c))
-    → o ≢ 0 → sent p d n t s i o ≡ Some x → x.channel < lanes p d
+    → o ≢ 0 → sent p d n t s i o ≡ Some x → x.channel < link_channels p d
 sent-channel p d n t s i o x stages link e =
     let by = sent-by p d n t s i o x e in
     let ready = grant-ready p d n t s i by.port by.by by.granted in
     let few = active-few p d n (s.stage by.port by.by.channel) by.by.out by.by.to (stages by.port by.by.channel) ready.active in
-    link-lanes p d o x.channel link (few-there p d o by.by.out x.channel by.by.to by.out by.to few)
+    link-channel_few p d o x.channel link (few-there p d o by.by.out x.channel by.by.to by.out by.to few)
 
 -- ---- the parts of a step
 
@@ -118,7 +118,7 @@ next_stage-sound p d n t s i port c Idle positive h = go (s.queue port c)
     go : (fs : List Flit) → HasOutput p d n (routed p n fs Idle)
     go [] = tt
     go (f ∷ fs) = route-output p n f.dest positive
-next_stage-sound p d n t s i port c (Routed o) positive h = go (is_place (winner p d n s o) (port * lanes p d + c)) (taken_channel p d n s o) refl
+next_stage-sound p d n t s i port c (Routed o) positive h = go (is_place (winner p d n s o) (port * link_channels p d + c)) (taken_channel p d n s o) refl
   where
     go : (b : Bool) (w : Option ℕ) → taken_channel p d n s o ≡ w → HasOutput p d n (activated b o w)
     go false w e = h
@@ -216,7 +216,7 @@ tile_step-sound p d n t s i positive sound come = record {
   waiting = λ f e. next_ejected-home p d (sent p d n t s i 0) i.hears s.ejected f (λ x is. sent-home p d n t s i 0 x sound.queued is) sound.waiting e;
   packet = next_packet-sound p d s.packet (word_in p s i) sound.packet;
   stages = λ port c. next_stage-sound p d n t s i port c (s.stage port c) positive (sound.stages port c);
-  channel = λ o k x link e. shifted-all (λ k y. y.channel < lanes p d) (sent p d n t s i o) (s.row o) (λ y is. sent-channel p d n t s i o y sound.stages link is)
+  channel = λ o k x link e. shifted-all (λ k y. y.channel < link_channels p d) (sent p d n t s i o) (s.row o) (λ y is. sent-channel p d n t s i o y sound.stages link is)
       (λ j y is. sound.channel o j y link is) k x e;
   owned = λ o k x link e. shifted-all (λ j y. owner p n o ((t +ℤ pos 1) -ℤ pos (j + 1)) ≡ d) (sent p d n t s i o) (s.row o)
       (λ y is. rw (filled-now t) (sent-owner p d n t s i o y link is))

@@ -3,6 +3,7 @@
 use Rattle.std.specs.Prelude.{ℕ, zero, suc, ◌+◌, ◌-◌, ◌*◌, ◌/◌, ◌%◌, Bool, false, List, [], ◌∷◌, length, if◌then◌else◌, ◌==◌, nat_le, nat_lt, ◌&&◌, ◌||◌, Option, Some, None, slice_set, slice_index, slice_index_or, sum_by, ℤ, pos, negsuc, ◌+ℤ◌, ◌-ℤ◌}
 use Rattle.noc_model.specs.declared.ways.Way.{Way}
 use Rattle.noc_model.specs.declared.ways.Way.TheVariants.{Local, Plus, Minus}
+use Rattle.noc_model.specs.Limits.{most_side}
 use Rattle.noc_model.specs.Plan.{Plan, hop}
 
 -- the coordinates of a tile, one for each side
@@ -133,8 +134,8 @@ position k x c = if c == 0 then x else (x + 1) % k
 -- by dimension, then class, then position; minus counts tiles from the other edge
 abbrev pub rank_of : Plan → ℕ → ℕ → Way → ℕ
 rank_of p n c Local = 0
-rank_of p n c (Plus i) = (2 * i + c) * 16 + position (side p i) (coord p n i) c
-rank_of p n c (Minus i) = (2 * i + c) * 16 + position (side p i) (side p i - 1 - coord p n i) c
+rank_of p n c (Plus i) = (2 * i + c) * most_side + position (side p i) (coord p n i) c
+rank_of p n c (Minus i) = (2 * i + c) * most_side + position (side p i) (side p i - 1 - coord p n i) c
 
 -- the rank of the channels of class c on the link that leaves tile n by the port: it rises along every route
 unfoldable pub rank : Plan → ℕ → ℕ → ℕ → ℕ

@@ -1,6 +1,7 @@
 -- The plan of a network, what is counted from it, and what is looked up in it.
 use Rattle.std.specs.Prelude.{ℕ, zero, suc, ◌+◌, ◌*◌, Bool, List, [], ◌∷◌, length, if◌then◌else◌, ◌==◌, nat_le, ◌&&◌, Option, Some, None, slice_get, find, position, sum_by}
 use Rattle.std.specs.List.{list_any}
+use Rattle.std.specs.Str.{bytes_eq}
 use Rattle.noc_model.specs.declared.plan.DomainPart.{DomainPart}
 use Rattle.noc_model.specs.declared.Host.{Host}
 use Rattle.noc_model.specs.declared.Range.{Range}
@@ -38,6 +39,7 @@ hop p = p.stages + 3
 abbrev pub classes : Plan → ℕ
 classes p = if p.torus then 2 else 1
 
+-- the name of a domain, and none where there is no domain
 abbrev pub name_in : Option DomainPart → List ℕ
 name_in None = []
 name_in (Some x) = x.name
@@ -50,17 +52,23 @@ name_at xs d = name_in (slice_get xs d)
 abbrev pub name_of : Plan → ℕ → List ℕ
 name_of p d = name_at p.domains d
 
+-- the channels of a domain, of one class, and none where there is no domain
 abbrev pub channels_in : Option DomainPart → ℕ
 channels_in None = 0
 channels_in (Some x) = x.channels
 
+-- the domain of this name
+abbrev pub domain_named : Plan → List ℕ → Option ℕ
+domain_named p name = position (λ (x : DomainPart). bytes_eq x.name name) p.domains
+
+-- the channels of a domain, of one class, and none where there is no domain
 -- the channels of domain d, of one class
 abbrev pub channels : Plan → ℕ → ℕ
 channels p d = channels_in (slice_get p.domains d)
 
 -- the channels of domain d on a link
-abbrev pub lanes : Plan → ℕ → ℕ
-lanes p d = classes p * channels p d
+abbrev pub link_channels : Plan → ℕ → ℕ
+link_channels p d = classes p * channels p d
 
 -- one thing at the local port, 0, and another at the others
 abbrev pub at_local {ℓ} : {A : Type ℓ} → ℕ → A → A → A
@@ -69,19 +77,19 @@ at_local (suc port) x y = y
 
 -- the channels of domain d at an input port: the local one has those of one class
 abbrev pub in_channels : Plan → ℕ → ℕ → ℕ
-in_channels p d port = at_local port (channels p d) (lanes p d)
+in_channels p d port = at_local port (channels p d) (link_channels p d)
 
 -- the channels of domain d at an output port: the local one has one
 abbrev pub out_channels : Plan → ℕ → ℕ → ℕ
-out_channels p d port = at_local port 1 (lanes p d)
+out_channels p d port = at_local port 1 (link_channels p d)
 
 -- the channels of all domains on a link
-abbrev pub all_lanes : ℕ → List DomainPart → ℕ
-all_lanes class_count xs = sum_by (λ (x : DomainPart). class_count * x.channels) xs
+abbrev pub all_link_channels : ℕ → List DomainPart → ℕ
+all_link_channels class_count xs = sum_by (λ (x : DomainPart). class_count * x.channels) xs
 
 -- the places for flits in the network's input buffers, where every port counts as one with a link
 abbrev pub places : Plan → ℕ
-places p = tiles p * ports p * all_lanes (classes p) p.domains * p.buffer
+places p = tiles p * ports p * all_link_channels (classes p) p.domains * p.buffer
 
 -- whether the host is of this tile and domain
 abbrev pub is_host : ℕ → ℕ → Host → Bool

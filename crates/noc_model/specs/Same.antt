@@ -3,7 +3,7 @@ use Rattle.std.specs.Prelude.{◌≡◌, ◌≢◌, ℕ, ◌<◌, true, false, N
 use Rattle.noc_model.specs.declared.Stage.{Stage}
 use Rattle.noc_model.specs.declared.Stage.TheVariants.{Idle, Routed, Active}
 use Rattle.noc_model.specs.declared.Packet.TheVariants.{Between}
-use Rattle.noc_model.specs.Plan.{Plan, tiles, hosts, channels, lanes, in_channels, out_channels}
+use Rattle.noc_model.specs.Plan.{Plan, tiles, hosts, channels, link_channels, in_channels, out_channels}
 use Rattle.noc_model.specs.Place.{neighbour}
 use Rattle.noc_model.specs.Tile.{Tile, TileIn}
 use Rattle.noc_model.specs.Run.{State}
@@ -19,8 +19,8 @@ pub record IsSameTile (p : Plan) (d n : ℕ) (a b : Tile) : Type 0 where
   pub switch : (o : ℕ) → IsOutput p n o → a.switch o ≡ b.switch o
   pub turn : (port : ℕ) → IsOutput p n port → a.turn port ≡ b.turn port
   pub row : (o m i : ℕ) → neighbour p n o ≡ Some m → i < p.stages → a.row o i ≡ b.row o i
-  pub credits : (o m w : ℕ) → neighbour p n o ≡ Some m → w < lanes p d → a.credits o w ≡ b.credits o w
-  pub pulse : (port m c : ℕ) → neighbour p n port ≡ Some m → c < lanes p d → a.pulse port c ≡ b.pulse port c
+  pub credits : (o m w : ℕ) → neighbour p n o ≡ Some m → w < link_channels p d → a.credits o w ≡ b.credits o w
+  pub pulse : (port m c : ℕ) → neighbour p n port ≡ Some m → c < link_channels p d → a.pulse port c ≡ b.pulse port c
   pub packet : hosts p n d ≡ true → a.packet ≡ b.packet
   pub current : hosts p n d ≡ true → a.current ≡ b.current
   pub dropped : hosts p n d ≡ true → a.dropped ≡ b.dropped
@@ -33,7 +33,7 @@ IsSameState p d a b = (n : ℕ) → n < tiles p → IsSameTile p d n (a n) (b n)
 -- what comes in is the same by links, and at an attachment
 pub record IsSameIn (p : Plan) (d n : ℕ) (i j : TileIn) : Type 0 where
   pub arrives : (port m : ℕ) → neighbour p n port ≡ Some m → i.arrives port ≡ j.arrives port
-  pub returns : (o m w : ℕ) → neighbour p n o ≡ Some m → w < lanes p d → i.returns o w ≡ j.returns o w
+  pub returns : (o m w : ℕ) → neighbour p n o ≡ Some m → w < link_channels p d → i.returns o w ≡ j.returns o w
   pub offer : hosts p n d ≡ true → i.offer ≡ j.offer
   pub hears : hosts p n d ≡ true → i.hears ≡ j.hears
 

@@ -6,7 +6,7 @@ use Rattle.noc_model.specs.declared.Stage.{Stage}
 use Rattle.noc_model.specs.declared.Stage.TheVariants.{Idle, Routed, Active}
 use Rattle.noc_model.specs.declared.Packet.{Packet}
 use Rattle.noc_model.specs.declared.Packet.TheVariants.{Between, Passing, Dropping}
-use Rattle.noc_model.specs.Plan.{Plan, tiles, hosts, channels, lanes, out_channels}
+use Rattle.noc_model.specs.Plan.{Plan, tiles, hosts, channels, link_channels, out_channels}
 use Rattle.noc_model.specs.Place.{neighbour, owner}
 use Rattle.noc_model.specs.Tile.{Tile}
 use Rattle.noc_model.specs.Run.{State}
@@ -39,7 +39,7 @@ pub record IsSoundTile (p : Plan) (d n : ℕ) (t : ℤ) (s : Tile) : Type 0 wher
   pub packet : IsSoundPacket p d s.packet
   pub stages : (port c : ℕ) → HasOutput p d n (s.stage port c)
   -- a flit on a link has a channel of the domain, and came there in a cycle that the domain owned
-  pub channel : (o i : ℕ) (x : LinkFlit) → o ≢ 0 → s.row o i ≡ Some x → x.channel < lanes p d
+  pub channel : (o i : ℕ) (x : LinkFlit) → o ≢ 0 → s.row o i ≡ Some x → x.channel < link_channels p d
   pub owned : (o i : ℕ) (x : LinkFlit) → o ≢ 0 → s.row o i ≡ Some x → owner p n o (t -ℤ pos (i + 1)) ≡ d
   pub current : s.current < channels p d
   -- a list of the local port is no longer than the buffer, and one of a port without a link is empty

@@ -1,7 +1,7 @@
 -- The run of one tile, and what may come into it.
 use Rattle.std.specs.Prelude.{◌≡◌, ℕ, zero, suc, ◌<◌, ◌≤◌, true, false, length, Some, None, ℤ, pos, ◌-ℤ◌}
 use Rattle.noc_model.specs.declared.LinkFlit.{LinkFlit}
-use Rattle.noc_model.specs.Plan.{Plan, lanes, hosts}
+use Rattle.noc_model.specs.Plan.{Plan, link_channels, hosts}
 use Rattle.noc_model.specs.Place.{neighbour, opposite, owner}
 use Rattle.noc_model.specs.Tile.{Tile, TileIn, start_tile}
 use Rattle.noc_model.specs.Step.{tile_step}
@@ -23,7 +23,7 @@ pub record MayArrive (p : Plan) (d n : ℕ) (t : ℤ) (s : Tile) (port : ℕ) (x
   pub from : ℕ
   pub linked : neighbour p n port ≡ Some from
   pub owned : owner p from (opposite port) (t -ℤ pos p.stages) ≡ d
-  pub channel : x.channel < lanes p d
+  pub channel : x.channel < link_channels p d
   pub room : length (s.queue port x.channel) < p.buffer
   pub home : GoesHome p d x.flit
 
@@ -31,7 +31,7 @@ pub record MayArrive (p : Plan) (d n : ℕ) (t : ℤ) (s : Tile) (port : ℕ) (x
 -- where the tile doesn't host the domain
 pub record IsTileIn (p : Plan) (d n : ℕ) (t : ℤ) (s : Tile) (i : TileIn) : Type 0 where
   pub arrives : (port : ℕ) (x : LinkFlit) → i.arrives port ≡ Some x → MayArrive p d n t s port x
-  pub returns : (o m w : ℕ) → neighbour p n o ≡ Some m → w < lanes p d → i.returns o w ≡ true → s.credits o w < p.buffer
+  pub returns : (o m w : ℕ) → neighbour p n o ≡ Some m → w < link_channels p d → i.returns o w ≡ true → s.credits o w < p.buffer
   pub offer : hosts p n d ≡ false → i.offer ≡ None
   pub hears : hosts p n d ≡ false → i.hears ≡ false
 
@@ -42,4 +42,4 @@ AreTileIns p d n is = (t : ℕ) → IsTileIn p d n (pos t) (tile_after p d n is 
 -- no list is longer than the buffer, and no credit count of a link is above it
 pub record IsWithin (p : Plan) (d n : ℕ) (s : Tile) : Type 0 where
   pub lists : (port c : ℕ) → length (s.queue port c) ≤ p.buffer
-  pub credits : (o m w : ℕ) → neighbour p n o ≡ Some m → w < lanes p d → s.credits o w ≤ p.buffer
+  pub credits : (o m w : ℕ) → neighbour p n o ≡ Some m → w < link_channels p d → s.credits o w ≤ p.buffer

@@ -2,7 +2,7 @@
 
 ghost use Rattle.std.specs.Prelude.{◌≡◌, ◌≢◌, ◌<◌, ◌≤◌, ℕ, length, if◌then◌else◌, IfSome, IfNone};
 ghost use Rattle.noc_model.specs.Limits.{most_domains};
-ghost use Rattle.noc_model.specs.Plan.{name_at, all_lanes};
+ghost use Rattle.noc_model.specs.Plan.{name_at, all_link_channels};
 ghost use Rattle.noc_model.specs.Sound.{HaveChannels};
 
 use crate::plan::DomainPart;
@@ -29,12 +29,12 @@ pub(crate) fn classes_of(torus: bool) -> u32
     if torus { 2 } else { 1 }
 }
 
-/// The channels of all domains on a link.
-pub(crate) fn lanes_of(domains: &[DomainPart], classes: u32) -> u32
+/// The channels of all domains on a link, at most 128.
+pub(crate) fn all_link_channels(domains: &[DomainPart], classes: u32) -> u32
     requires count { length domains.now ≤ most_domains }
     requires channels { HaveChannels domains.now }
     requires classes { classes ≤ 2 }
-    ensures value { result ≡ all_lanes classes domains.now }
+    ensures value { result ≡ all_link_channels classes domains.now }
     ensures few { result ≤ 128 }
 {
     let mut count = 0;

@@ -1,13 +1,13 @@
 //! An accepted plan.
 
 ghost use Rattle.std.specs.Prelude.{◌≡◌, ◌≢◌, ◌<◌, ◌≤◌, ℕ, length, slice_index, slice_get, slice_set, option_map, Some, is_some, IfSome, IfNone, IfOk};
-ghost use Rattle.noc_model.specs.Plan.{product, tiles, ports, hop, channels, classes, name_of, places, hosts, attach_of, lookup};
-ghost use Rattle.noc_model.specs.Limits.{most_sides, most_tiles, most_buffer, most_domains};
+ghost use Rattle.noc_model.specs.Plan.{product, tiles, ports, hop, channels, link_channels, classes, name_of, domain_named, places, hosts, attach_of, lookup};
+ghost use Rattle.noc_model.specs.Limits.{most_sides, most_side, most_tiles, most_buffer, most_channels, most_domains};
 ghost use Rattle.noc_model.specs.Sound.{AreSides, HaveChannels};
 ghost use Rattle.noc_model.specs.Place.{side, coord, coords_in, tile_in, neighbour};
 
 use crate::copies::copy_of;
-use crate::domains::{classes_of, find_in, lanes_of};
+use crate::domains::{all_link_channels, classes_of, find_in};
 use crate::lookups::{host_in, range_in};
 use crate::sides::{coord_in, minus_of, moved_in, plus_of, product_of};
 use crate::{Host, Range, Way};
@@ -56,10 +56,10 @@ impl Parts {
         requires channels { HaveChannels self.now.domains.items }
         ensures { result ≡ places (plan_of self.now) }
     {
-        let lanes = lanes_of(&self.domains, classes_of(self.torus));
+        let channels = all_link_channels(&self.domains, classes_of(self.torus));
         let sides = self.dims.as_slice();
         let ports = 1 + 2 * sides.len() as u32;
-        product_of(sides) * ports * lanes * self.buffer
+        product_of(sides) * ports * channels * self.buffer
     }
 }
 
@@ -120,7 +120,7 @@ impl Plan {
         requires { i < length self.now.dims }
         ensures value { result ≡ side self.now i }
         ensures some { 1 ≤ result }
-        ensures few { result ≤ most_domains }
+        ensures few { result ≤ most_side }
     {
         self.parts.dims[i as usize]
     }
@@ -163,18 +163,42 @@ impl Plan {
 
     /// The domain of this name.
     pub fn find(&self, name: &[u8]) -> Option<u32>
+        ensures value { result ≡ domain_named self.now name.now }
         ensures found { IfSome result (λ d. (d < length self.now.domains) × (name_of self.now d ≡ name.now)) }
         ensures absent { IfNone result ((d : ℕ) → d < length self.now.domains → name_of self.now d ≢ name.now) }
     {
         find_in(&self.parts.domains, name)
     }
 
+    /// The ports of a tile, at most 7: the local one, and two for each dimension, with a link or without.
+    pub fn ports(&self) -> u32
+        ensures value { result ≡ ports self.now }
+        ensures few { result ≤ 7 }
+    {
+        self.known();
+        1 + 2 * self.dims()
+    }
+
     /// The virtual channels of domain `d`, of each class, 1 to 4.
     pub fn channels(&self, d: u32) -> u32
         requires { d < length self.now.domains }
-        ensures { result ≡ channels self.now d }
+        ensures value { result ≡ channels self.now d }
+        ensures some { 1 ≤ result }
+        ensures few { result ≤ most_channels }
     {
+        self.known();
         self.parts.domains[d as usize].channels
+    }
+
+    /// The virtual channels of domain `d` on a link, 1 to 8: those of every class.
+    pub fn link_channels(&self, d: u32) -> u32
+        requires { d < length self.now.domains }
+        ensures value { result ≡ link_channels self.now d }
+        ensures some { 1 ≤ result }
+        ensures few { result ≤ 8 }
+    {
+        self.known();
+        self.classes() * self.channels(d)
     }
 
     /// The number of channel classes: 1 on a mesh, 2 on a torus.
@@ -203,7 +227,7 @@ impl Plan {
         requires { i < length self.now.dims }
         ensures value { result ≡ coord self.now n i }
         ensures below { result < side self.now i }
-        ensures few { result < 16 }
+        ensures few { result < most_side }
     {
         coord_in(&self.parts.dims, n, i as usize)
     }
@@ -320,6 +344,10 @@ impl Plan {
     }
 
     /// An equal plan.
+    ///
+    /// # Errors
+    ///
+    /// When memory runs out.
     pub fn copy(&self, alloc: Global) -> Result<Plan, AllocError>
         ensures { IfOk result (λ p. p ≡ self.now) }
     {

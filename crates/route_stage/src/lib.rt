@@ -20,7 +20,7 @@ use flit_word::Flit;
 use noc_model::Plan;
 use std::alloc::{AllocError, Global};
 use std::marker::Model;
-use vc_partition::{Lanes, Stage, link_channels, port_count};
+use vc_partition::{Lanes, Stage};
 
 /// The outputs of a tile, by destination.
 #[derive(Drop)]
@@ -140,7 +140,7 @@ impl RouteStage {
             ≡ routed_to (input_count plan.now d) plan.now n fronts.now stages.now next.old d e k }
         ensures inputs { HasInputs plan.now next.new }
     {
-        for i in 0..port_count(plan) * link_channels(plan, d) {
+        for i in 0..plan.ports() * plan.link_channels(d) {
             self.step_one(plan, d, i, fronts, stages, next);
         }
     }

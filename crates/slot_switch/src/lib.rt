@@ -21,7 +21,7 @@ mod tests;
 use noc_model::Plan;
 use std::alloc::{AllocError, Global};
 use std::marker::Model;
-use vc_partition::{Grant, Lanes, comes_first, port_count, port_counts};
+use vc_partition::{Grant, Lanes, comes_first, port_counts};
 
 /// A grant, and the input port that has it.
 #[derive(Clone, Copy, Debug, PartialEq, Eq)]
@@ -93,7 +93,7 @@ impl SlotSwitch {
         let turns = Lanes::new(alloc, &counts, 0)?;
         let switches = Lanes::new(alloc, &counts, 0)?;
         Ok(SlotSwitch {
-            ports: port_count(plan),
+            ports: plan.ports(),
             asks,
             turns,
             switches,

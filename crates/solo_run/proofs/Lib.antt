@@ -4,7 +4,7 @@ pub mod Free
 pub mod Outs
 pub mod Rows
 pub mod Made
-pub mod Told
+pub mod TileEvents
 pub mod Classes
 pub mod Twins
 pub mod Nets

@@ -7,7 +7,7 @@ use Rattle.std.proofs.Math.ListN.{get_or-append}
 use Rattle.std.proofs.Math.Seq.{get_or-append_seam}
 use Rattle.std.proofs.lemmas.Bool.{cases_lt}
 use Rattle.std.proofs.lemmas.Option.{slice_get-get_or, slice_get_read}
-use Rattle.noc_model.specs.Plan.{Plan, ports, lanes}
+use Rattle.noc_model.specs.Plan.{Plan, ports, link_channels}
 use Rattle.noc_model.specs.Tile.{Tile, TileIn}
 use Rattle.noc_model.specs.Step.{tile_step}
 use Rattle.noc_model.specs.Run.{State, Input, arrival, return_of, fed, step}
@@ -64,11 +64,11 @@ stepped-same p h s x a y i e fit come made =
 
 -- lists of all that comes in are what comes in
 pub fed-made : (p : Plan) (d n : ℕ) (s : State) (x : Input) (y : SoloFed) → y.arrives.items ≡ map (arrival p s n) (range_with_len 0 (ports p))
-    → y.returns.items ≡ by_rows (ports p) (lanes p d) (return_of p s n) → y.offer ≡ (fed p d s x n).offer → y.hears ≡ (fed p d s x n).hears
+    → y.returns.items ≡ by_rows (ports p) (link_channels p d) (return_of p s n) → y.offer ≡ (fed p d s x n).offer → y.hears ≡ (fed p d s x n).hears
     → IsSameIn p d (in_of p d y) (fed p d s x n)
 fed-made p d n s x y arrives returns offer hears = record {
   arrives = λ port in_port. ap (λ xs. slice_index_or xs port None) arrives ∙ get_or-map-range_with_len (arrival p s n) 0 (ports p) port port None in_port (omega arith);
-  returns = λ o w in_port in_w. ap (λ xs. slice_index_or xs (o * lanes p d + w) false) returns ∙ by_rows-at (ports p) (lanes p d) (return_of p s n) o w false in_port in_w;
+  returns = λ o w in_port in_w. ap (λ xs. slice_index_or xs (o * link_channels p d + w) false) returns ∙ by_rows-at (ports p) (link_channels p d) (return_of p s n) o w false in_port in_w;
   offer = offer;
   hears = hears;
 }

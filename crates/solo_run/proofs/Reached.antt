@@ -7,7 +7,7 @@ use Rattle.std.proofs.lemmas.List.Elements.{All-nil}
 use Rattle.noc_model.specs.declared.Event.{Event}
 use Rattle.noc_model.specs.declared.Flit.{Flit}
 use Rattle.noc_model.specs.declared.Host.{Host}
-use Rattle.noc_model.specs.Plan.{Plan, tiles, ports, lanes, channels, hosts}
+use Rattle.noc_model.specs.Plan.{Plan, tiles, ports, link_channels, channels, hosts}
 use Rattle.noc_model.specs.Sound.{IsSound}
 use Rattle.noc_model.specs.Place.{neighbour, opposite}
 use Rattle.noc_model.specs.Tile.{Tile, TileIn}
@@ -28,7 +28,7 @@ use Rattle.noc_model.proofs.HostTiles.{host-within}
 use Rattle.solo_run.proofs.Hosted.{home-inside}
 use Rattle.noc_model.proofs.Switched.{link-below}
 use Rattle.noc_model.proofs.SamePlaces.{then-same}
-use Rattle.solo_run.proofs.Told.{events-more}
+use Rattle.solo_run.proofs.TileEvents.{events-more}
 use Rattle.solo_run.proofs.Twins.{AreTwins, queue-same, stage-same, credits-same, open-same, twins-step, same-trans}
 
 -- what holds of the run's state in cycle t
@@ -106,7 +106,7 @@ arrival-same p d n port a s sound same inside =
     (λ m e. (let some = sound.stages.0 in let last : p.stages - 1 < p.stages = omega (arith, some) in
     (same m (neighbour-inside p n port m (positive p.dims sound.sides) e)).rows (opposite port) (p.stages - 1) (opposite-below p n port m sound inside e) last))
 
-pulse-same : (p : Plan) (d n port c : ℕ) (a s : State) (o : Option ℕ) → IsSound p → AreSame p d a s → n < tiles p → c < lanes p d → neighbour p n port ≡ o
+pulse-same : (p : Plan) (d n port c : ℕ) (a s : State) (o : Option ℕ) → IsSound p → AreSame p d a s → n < tiles p → c < link_channels p d → neighbour p n port ≡ o
     → pulse_from a o (opposite port) c ≡ pulse_from s o (opposite port) c
 pulse-same p d n port c a s None sound same inside in_c e = refl
 pulse-same p d n port c a s (Some m) sound same inside in_c e =

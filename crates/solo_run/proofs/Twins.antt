@@ -8,7 +8,7 @@ use Rattle.noc_model.specs.declared.Offer.{Offer}
 use Rattle.noc_model.specs.declared.Grant.{Grant}
 use Rattle.noc_model.specs.declared.Stage.{Stage}
 use Rattle.noc_model.specs.declared.Stage.TheVariants.{Idle, Routed, Active}
-use Rattle.noc_model.specs.Plan.{Plan, channels, lanes, classes, in_channels, out_channels, ports, at_local}
+use Rattle.noc_model.specs.Plan.{Plan, channels, link_channels, classes, in_channels, out_channels, ports, at_local}
 use Rattle.noc_model.specs.Place.{owner}
 use Rattle.noc_model.specs.Pick.{pick}
 use Rattle.noc_model.specs.Tile.{Tile, TileIn}
@@ -30,20 +30,20 @@ use Rattle.solo_run.proofs.Classes.{class-there, width-within}
 pub record AreTwins (p : Plan) (d n : ℕ) (a b : Tile) (i j : TileIn) : Type 0 where
   pub same : IsSame p d a b
   pub fed : IsSameIn p d i j
-  pub stages : (port c : ℕ) → port < ports p → c < lanes p d → HasOutput p d n (a.stage port c)
+  pub stages : (port c : ℕ) → port < ports p → c < link_channels p d → HasOutput p d n (a.stage port c)
   pub current : a.current < channels p d
   pub some : 1 ≤ channels p d
 
-pub queue-same : (p : Plan) (d : ℕ) (a b : Tile) (port c : ℕ) → IsSame p d a b → port < ports p → c < lanes p d → a.queue port c ≡ b.queue port c
+pub queue-same : (p : Plan) (d : ℕ) (a b : Tile) (port c : ℕ) → IsSame p d a b → port < ports p → c < link_channels p d → a.queue port c ≡ b.queue port c
 queue-same p d a b port c same in_port in_c = ap (λ (x : InChannel). x.queue) (same.channels port c in_port in_c)
 
-pub stage-same : (p : Plan) (d : ℕ) (a b : Tile) (port c : ℕ) → IsSame p d a b → port < ports p → c < lanes p d → a.stage port c ≡ b.stage port c
+pub stage-same : (p : Plan) (d : ℕ) (a b : Tile) (port c : ℕ) → IsSame p d a b → port < ports p → c < link_channels p d → a.stage port c ≡ b.stage port c
 stage-same p d a b port c same in_port in_c = ap (λ (x : InChannel). x.stage) (same.channels port c in_port in_c)
 
-held-same : (p : Plan) (d : ℕ) (a b : Tile) (o w : ℕ) → IsSame p d a b → o < ports p → w < lanes p d → a.held o w ≡ b.held o w
+held-same : (p : Plan) (d : ℕ) (a b : Tile) (o w : ℕ) → IsSame p d a b → o < ports p → w < link_channels p d → a.held o w ≡ b.held o w
 held-same p d a b o w same in_port in_w = ap (λ (x : OutChannel). x.held) (same.outputs o w in_port in_w)
 
-pub credits-same : (p : Plan) (d : ℕ) (a b : Tile) (o w : ℕ) → IsSame p d a b → o < ports p → w < lanes p d → a.credits o w ≡ b.credits o w
+pub credits-same : (p : Plan) (d : ℕ) (a b : Tile) (o w : ℕ) → IsSame p d a b → o < ports p → w < link_channels p d → a.credits o w ≡ b.credits o w
 credits-same p d a b o w same in_port in_w = ap (λ (x : OutChannel). x.credits) (same.outputs o w in_port in_w)
 
 -- ---- the outputs' channels
@@ -55,43 +55,43 @@ free_channel-same p d a b o class same some in_port low =
     (least-same (at_local o 1 (channels p d)) (λ j. not (a.held o (class * channels p d + j))) (λ j. not (b.held o (class * channels p d + j)))
     (λ j below. ap not (held-same p d a b o (class * channels p d + j) same in_port (pack-below p d class j low (width-within o (channels p d) j some below)))))
 
-free_for-same : (p : Plan) (d n : ℕ) (a b : Tile) (o port c : ℕ) → IsSame p d a b → 1 ≤ channels p d → o < ports p → c < lanes p d
+free_for-same : (p : Plan) (d n : ℕ) (a b : Tile) (o port c : ℕ) → IsSame p d a b → 1 ≤ channels p d → o < ports p → c < link_channels p d
     → free_for p d n a o port c ≡ free_for p d n b o port c
 free_for-same p d n a b o port c same some in_port in_c =
     free_channel-same p d a b o (class_of p d n port c o) same some in_port (class-there p d n port c o in_c)
 
-row-there : (p : Plan) (d k : ℕ) → k < ports p * lanes p d → (k / lanes p d < ports p) × (k % lanes p d < lanes p d)
-row-there p d k below = go (lanes p d) below
+row-there : (p : Plan) (d k : ℕ) → k < ports p * link_channels p d → (k / link_channels p d < ports p) × (k % link_channels p d < link_channels p d)
+row-there p d k below = go (link_channels p d) below
   where
     go : (m : ℕ) → k < ports p * m → (k / m < ports p) × (k % m < m)
     go zero h = absurd (let none : ports p * 0 ≡ 0 = omega arith in omega arith)
     go (suc m) h = let some : 0 < suc m = omega arith in (div_below k (suc m) (ports p) some h, mod-lt k some)
 
-candidate-same : (p : Plan) (d n : ℕ) (a b : Tile) (o k : ℕ) → IsSame p d a b → 1 ≤ channels p d → o < ports p → k < ports p * lanes p d
+candidate-same : (p : Plan) (d n : ℕ) (a b : Tile) (o k : ℕ) → IsSame p d a b → 1 ≤ channels p d → o < ports p → k < ports p * link_channels p d
     → is_candidate p d n a o k ≡ is_candidate p d n b o k
 candidate-same p d n a b o k same some in_port below =
     let at = row-there p d k below in
-    let port : ℕ = k / lanes p d in
-    let c : ℕ = k % lanes p d in
+    let port : ℕ = k / link_channels p d in
+    let c : ℕ = k % link_channels p d in
     ap (λ x. nat_lt c (in_channels p d port) && (waits_for x o && is_some (free_for p d n a o port c))) (stage-same p d a b port c same at.0 at.1)
     ∙ ap (λ x. nat_lt c (in_channels p d port) && (waits_for (b.stage port c) o && is_some x)) (free_for-same p d n a b o port c same some in_port at.1)
 
 winner-same : (p : Plan) (d n : ℕ) (a b : Tile) (o : ℕ) → IsSame p d a b → 1 ≤ channels p d → o < ports p → winner p d n a o ≡ winner p d n b o
 unfolding winner
 winner-same p d n a b o same some in_port =
-    pick-same (ports p * lanes p d) (is_candidate p d n a o) (is_candidate p d n b o) (a.allocation o) (b.allocation o)
+    pick-same (ports p * link_channels p d) (is_candidate p d n a o) (is_candidate p d n b o) (a.allocation o) (b.allocation o)
     (λ k below. candidate-same p d n a b o k same some in_port below) (ap (λ (x : Pointers). x.allocation) (same.pointers o in_port))
 
-winner-below : (p : Plan) (d n : ℕ) (s : Tile) (o k : ℕ) → winner p d n s o ≡ Some k → k < ports p * lanes p d
+winner-below : (p : Plan) (d n : ℕ) (s : Tile) (o k : ℕ) → winner p d n s o ≡ Some k → k < ports p * link_channels p d
 unfolding winner
-winner-below p d n s o k e = (pick-member (ports p * lanes p d) (is_candidate p d n s o) (s.allocation o) k e).0
+winner-below p d n s o k e = (pick-member (ports p * link_channels p d) (is_candidate p d n s o) (s.allocation o) k e).0
 
 taken-same : (p : Plan) (d n : ℕ) (a b : Tile) (o : ℕ) → IsSame p d a b → 1 ≤ channels p d → o < ports p → taken_channel p d n a o ≡ taken_channel p d n b o
 unfolding taken_channel
 taken-same p d n a b o same some in_port =
-    then-same (λ k. free_for p d n a o (k / lanes p d) (k % lanes p d)) (λ k. free_for p d n b o (k / lanes p d) (k % lanes p d)) (winner p d n a o) (winner p d n b o)
+    then-same (λ k. free_for p d n a o (k / link_channels p d) (k % link_channels p d)) (λ k. free_for p d n b o (k / link_channels p d) (k % link_channels p d)) (winner p d n a o) (winner p d n b o)
     (winner-same p d n a b o same some in_port)
-    (λ k e. free_for-same p d n a b o (k / lanes p d) (k % lanes p d) same some in_port (row-there p d k (winner-below p d n b o k e)).1)
+    (λ k e. free_for-same p d n a b o (k / link_channels p d) (k % link_channels p d) same some in_port (row-there p d k (winner-below p d n b o k e)).1)
 
 -- ---- the switch
 
@@ -110,7 +110,7 @@ ready_at-same p d n t a b i j fs (Routed o) same fed h = refl
 ready_at-same p d n t a b i j [] (Active o w) same fed h = refl
 ready_at-same p d n t a b i j (f ∷ fs) (Active o w) same fed h = takes-same p d n t a b i j o w same fed (output-below p n o h.0) h.1
 
-ready-same : (p : Plan) (d n : ℕ) (t : ℤ) (a b : Tile) (i j : TileIn) (port c : ℕ) → AreTwins p d n a b i j → port < ports p → c < lanes p d
+ready-same : (p : Plan) (d n : ℕ) (t : ℤ) (a b : Tile) (i j : TileIn) (port c : ℕ) → AreTwins p d n a b i j → port < ports p → c < link_channels p d
     → is_ready p d n t a i port c ≡ is_ready p d n t b j port c
 ready-same p d n t a b i j port c twins in_port in_c =
     ready_at-same p d n t a b i j (a.queue port c) (a.stage port c) twins.same twins.fed (twins.stages port c in_port in_c)
@@ -190,13 +190,13 @@ comes_in-same p d a b i j (suc port) c same fed few in_port = ap (λ x. flit_on 
 
 -- ---- the parts of a step
 
-stage-next-same : (p : Plan) (d n : ℕ) (t : ℤ) (a b : Tile) (i j : TileIn) (port c : ℕ) (s : Stage) → AreTwins p d n a b i j → port < ports p → c < lanes p d → HasOutput p d n s
+stage-next-same : (p : Plan) (d n : ℕ) (t : ℤ) (a b : Tile) (i j : TileIn) (port c : ℕ) (s : Stage) → AreTwins p d n a b i j → port < ports p → c < link_channels p d → HasOutput p d n s
     → next_stage p d n t a i port c s ≡ next_stage p d n t b j port c s
 stage-next-same p d n t a b i j port c Idle twins in_port in_c h = ap (λ fs. routed p n fs Idle) (queue-same p d a b port c twins.same in_port in_c)
 stage-next-same p d n t a b i j port c (Routed o) twins in_port in_c h =
     let out = output-below p n o h in
-    ap (λ w. activated (is_place w (port * lanes p d + c)) o (taken_channel p d n a o)) (winner-same p d n a b o twins.same twins.some out)
-    ∙ ap (activated (is_place (winner p d n b o) (port * lanes p d + c)) o) (taken-same p d n a b o twins.same twins.some out)
+    ap (λ w. activated (is_place w (port * link_channels p d + c)) o (taken_channel p d n a o)) (winner-same p d n a b o twins.same twins.some out)
+    ∙ ap (activated (is_place (winner p d n b o) (port * link_channels p d + c)) o) (taken-same p d n a b o twins.same twins.some out)
 stage-next-same p d n t a b i j port c (Active o w) twins in_port in_c h =
     ap (λ x. if x && is_tail (front (a.queue port c)) then Idle else Active o w) (leaves-same p d n t a b i j port c twins in_port)
     ∙ ap (λ fs. if leaves p d n t b j port c && is_tail (front fs) then Idle else Active o w) (queue-same p d a b port c twins.same in_port in_c)
@@ -210,7 +210,7 @@ output-is x y m k e f = ap (λ z. record { held = z; credits = m }) e ∙ ap (λ
 pointers-is : (x y m k u v : ℕ) → x ≡ y → m ≡ k → u ≡ v → ◌≡◌ {A = Pointers} (record { allocation = x; switch = m; turn = u }) (record { allocation = y; switch = k; turn = v })
 pointers-is x y m k u v e f g = ap (λ z. record { allocation = z; switch = m; turn = u }) e ∙ ap (λ z. record { allocation = y; switch = z; turn = u }) f ∙ ap (λ z. record { allocation = y; switch = k; turn = z }) g
 
-channels-next : (p : Plan) (d n : ℕ) (t : ℤ) (a b : Tile) (i j : TileIn) (port c : ℕ) → AreTwins p d n a b i j → port < ports p → c < lanes p d
+channels-next : (p : Plan) (d n : ℕ) (t : ℤ) (a b : Tile) (i j : TileIn) (port c : ℕ) → AreTwins p d n a b i j → port < ports p → c < link_channels p d
     → channel_in (tile_step p d n t a i) port c ≡ channel_in (tile_step p d n t b j) port c
 unfolding tile_step
 channels-next p d n t a b i j port c twins in_port in_c =
@@ -223,7 +223,7 @@ channels-next p d n t a b i j port c twins in_port in_c =
     ∙ ap (next_stage p d n t b j port c) (stage-same p d a b port c twins.same in_port in_c))
     (ap (at_local port false) left)
 
-outputs-next : (p : Plan) (d n : ℕ) (t : ℤ) (a b : Tile) (i j : TileIn) (o w : ℕ) → AreTwins p d n a b i j → o < ports p → w < lanes p d
+outputs-next : (p : Plan) (d n : ℕ) (t : ℤ) (a b : Tile) (i j : TileIn) (o w : ℕ) → AreTwins p d n a b i j → o < ports p → w < link_channels p d
     → output_in (tile_step p d n t a i) o w ≡ output_in (tile_step p d n t b j) o w
 unfolding tile_step
 outputs-next p d n t a b i j o w twins in_port in_w =

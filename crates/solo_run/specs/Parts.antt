@@ -2,7 +2,7 @@
 use Rattle.std.specs.Prelude.{ℕ, ◌+◌, ◌*◌, ◌/◌, ◌%◌, ◌<◌, ◌≤◌, ◌&&◌, Bool, List, All, length, map, nat_le, pos}
 use Rattle.std.specs.List.{range_with_len}
 use Rattle.noc_model.specs.declared.Flit.{Flit}
-use Rattle.noc_model.specs.Plan.{Plan, tiles, ports, lanes, channels}
+use Rattle.noc_model.specs.Plan.{Plan, tiles, ports, link_channels, channels}
 use Rattle.noc_model.specs.Tile.{Tile, TileIn}
 use Rattle.noc_model.specs.Step.{tile_step}
 use Rattle.noc_model.specs.SoundState.{HasOutput}
@@ -17,11 +17,11 @@ IsHere p h = (h.domain < length p.domains) × (h.tile < tiles p)
 
 -- what a step's numbers need of the tile: its flits go to tiles, its packets by outputs that are there
 pub record IsFit (p : Plan) (h : Here) (s : Tile) : Type 0 where
-  pub flits : (port c : ℕ) → port < ports p → c < lanes p h.domain
+  pub flits : (port c : ℕ) → port < ports p → c < link_channels p h.domain
       → All (λ (f : Flit). f.dest < tiles p) (s.queue port c)
-  pub stages : (port c : ℕ) → port < ports p → c < lanes p h.domain → HasOutput p h.domain h.tile (s.stage port c)
+  pub stages : (port c : ℕ) → port < ports p → c < link_channels p h.domain → HasOutput p h.domain h.tile (s.stage port c)
   pub current : s.current < channels p h.domain
-  pub credits : (o w : ℕ) → o < ports p → w < lanes p h.domain → s.credits o w ≤ p.buffer + h.cycle
+  pub credits : (o w : ℕ) → o < ports p → w < link_channels p h.domain → s.credits o w ≤ p.buffer + h.cycle
 
 -- the members that are not below a place
 abbrev pub from_on : ℕ → (ℕ → Bool) → ℕ → Bool

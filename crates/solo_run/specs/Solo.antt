@@ -1,6 +1,6 @@
 -- What the lists of the plain program stand for. The lists go by port and channel, or by port and place.
 use Rattle.std.specs.Prelude.{ℕ, ◌+◌, ◌*◌, false, List, Option, Some, None, slice_get, slice_index_or}
-use Rattle.noc_model.specs.Plan.{Plan, lanes}
+use Rattle.noc_model.specs.Plan.{Plan, link_channels}
 use Rattle.noc_model.specs.Tile.{Tile, TileIn, start_tile}
 use Rattle.noc_model.specs.Run.{State}
 use Rattle.solo_run.specs.Channel.{InChannel, empty_channel}
@@ -32,11 +32,11 @@ pointers_at x k = slice_index_or x.pointers.items k no_pointers
 -- the tile that the lists are
 abbrev pub tile_of : Plan → ℕ → SoloTile → Tile
 tile_of p d x = record {
-  queue = λ port c. (channel_at x (port * lanes p d + c)).queue;
-  stage = λ port c. (channel_at x (port * lanes p d + c)).stage;
-  pulse = λ port c. (channel_at x (port * lanes p d + c)).pulse;
-  held = λ o w. (output_at x (o * lanes p d + w)).held;
-  credits = λ o w. (output_at x (o * lanes p d + w)).credits;
+  queue = λ port c. (channel_at x (port * link_channels p d + c)).queue;
+  stage = λ port c. (channel_at x (port * link_channels p d + c)).stage;
+  pulse = λ port c. (channel_at x (port * link_channels p d + c)).pulse;
+  held = λ o w. (output_at x (o * link_channels p d + w)).held;
+  credits = λ o w. (output_at x (o * link_channels p d + w)).credits;
   row = λ o i. slice_index_or x.rows.items (o * p.stages + i) None;
   allocation = λ o. (pointers_at x o).allocation;
   switch = λ o. (pointers_at x o).switch;
@@ -51,7 +51,7 @@ tile_of p d x = record {
 abbrev pub in_of : Plan → ℕ → SoloFed → TileIn
 in_of p d x = record {
   arrives = λ port. slice_index_or x.arrives.items port None;
-  returns = λ o w. slice_index_or x.returns.items (o * lanes p d + w) false;
+  returns = λ o w. slice_index_or x.returns.items (o * link_channels p d + w) false;
   offer = x.offer;
   hears = x.hears;
 }

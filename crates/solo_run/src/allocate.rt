@@ -1,13 +1,13 @@
 //! The outputs' channels: which packet gets which.
 
 ghost use Rattle.std.specs.Prelude.{◌≡◌, ◌<◌, ◌*◌, ◌&&◌, nat_le, IfSome};
-ghost use Rattle.noc_model.specs.Plan.{ports, lanes, classes};
+ghost use Rattle.noc_model.specs.Plan.{ports, link_channels, classes};
 ghost use Rattle.noc_model.specs.Pick.{least};
 ghost use Rattle.noc_model.specs.Step.{waits_for, free_channel, free_for, is_candidate, winner, taken_channel, is_place};
 ghost use Rattle.solo_run.specs.Solo.{tile_of};
 ghost use Rattle.solo_run.specs.Parts.{IsHere, from_on};
 
-use crate::sizes::{Here, channels, in_channels, lanes, out_width, places};
+use crate::sizes::{Here, in_channels, out_width, places};
 use crate::tile::SoloTile;
 use dor_routes::class_after;
 use noc_model::{Plan, Stage};
@@ -35,7 +35,7 @@ fn free_channel(plan: &Plan, here: Here, tile: &SoloTile, out: u32, class: u32) 
     requires class { class < classes plan.now }
     ensures { result ≡ free_channel plan.now here.domain (tile_of plan.now here.domain tile.now) out class }
 {
-    let width = channels(plan, here.domain);
+    let width = plan.channels(here.domain);
     for j in 0..out_width(plan, here.domain, out) {
         let channel = class * width + j;
         if !tile.held(plan, here.domain, out, channel) {
@@ -57,11 +57,11 @@ fn free_for(
     requires here { IsHere plan.now here }
     requires out { out < ports plan.now }
     requires port { port < ports plan.now }
-    requires channel { channel < lanes plan.now here.domain }
+    requires channel { channel < link_channels plan.now here.domain }
     ensures { result ≡ free_for plan.now here.domain here.tile (tile_of plan.now here.domain tile.now) out port
         channel }
 {
-    let class = channel / channels(plan, here.domain);
+    let class = channel / plan.channels(here.domain);
     free_channel(
         plan,
         here,
@@ -75,10 +75,10 @@ fn free_for(
 fn is_candidate(plan: &Plan, here: Here, tile: &SoloTile, out: u32, place: u32) -> bool
     requires here { IsHere plan.now here }
     requires out { out < ports plan.now }
-    requires place { place < ports plan.now * lanes plan.now here.domain }
+    requires place { place < ports plan.now * link_channels plan.now here.domain }
     ensures { result ≡ is_candidate plan.now here.domain here.tile (tile_of plan.now here.domain tile.now) out place }
 {
-    let width = lanes(plan, here.domain);
+    let width = plan.link_channels(here.domain);
     let port = place / width;
     let channel = place % width;
     channel < in_channels(plan, here.domain, port)
@@ -90,9 +90,9 @@ fn is_candidate(plan: &Plan, here: Here, tile: &SoloTile, out: u32, place: u32) 
 fn first_candidate(plan: &Plan, here: Here, tile: &SoloTile, out: u32, from: u32) -> Option<u32>
     requires here { IsHere plan.now here }
     requires out { out < ports plan.now }
-    ensures value { result ≡ least (ports plan.now * lanes plan.now here.domain)
+    ensures value { result ≡ least (ports plan.now * link_channels plan.now here.domain)
         (from_on from (is_candidate plan.now here.domain here.tile (tile_of plan.now here.domain tile.now) out)) }
-    ensures below { IfSome result (λ k. k < ports plan.now * lanes plan.now here.domain) }
+    ensures below { IfSome result (λ k. k < ports plan.now * link_channels plan.now here.domain) }
     ensures few { IfSome result (λ k. k < 56) }
 {
     for k in 0..places(plan, here.domain) {
@@ -109,7 +109,7 @@ pub(crate) fn winner(plan: &Plan, here: Here, tile: &SoloTile, out: u32) -> Opti
     requires here { IsHere plan.now here }
     requires out { out < ports plan.now }
     ensures value { result ≡ winner plan.now here.domain here.tile (tile_of plan.now here.domain tile.now) out }
-    ensures below { IfSome result (λ k. k < ports plan.now * lanes plan.now here.domain) }
+    ensures below { IfSome result (λ k. k < ports plan.now * link_channels plan.now here.domain) }
     ensures few { IfSome result (λ k. k < 56) }
 {
     let from = tile.pointers(out).allocation;
@@ -126,7 +126,7 @@ pub(crate) fn taken_channel(plan: &Plan, here: Here, tile: &SoloTile, out: u32) 
     requires out { out < ports plan.now }
     ensures { result ≡ taken_channel plan.now here.domain here.tile (tile_of plan.now here.domain tile.now) out }
 {
-    let width = lanes(plan, here.domain);
+    let width = plan.link_channels(here.domain);
     match winner(plan, here, tile, out) {
         Some(k) => free_for(plan, here, tile, out, k / width, k % width),
         None => None,

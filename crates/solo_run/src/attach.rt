@@ -6,7 +6,6 @@ ghost use Rattle.noc_model.specs.Step.{is_open, word_in, next_current};
 ghost use Rattle.solo_run.specs.Solo.{tile_of, in_of};
 
 use crate::fed::SoloFed;
-use crate::sizes::channels;
 use crate::tile::SoloTile;
 use flit_word::{Flit, Offer};
 use noc_model::Plan;
@@ -41,5 +40,5 @@ pub(crate) fn next_current(plan: &Plan, domain: u32, current: u32, entry: Option
     requires current { current < channels plan.now domain }
     ensures { result ≡ next_current plan.now domain current entry }
 {
-    tile_iface::next_current(channels(plan, domain), current, entry)
+    tile_iface::next_current(plan.channels(domain), current, entry)
 }

@@ -3,7 +3,7 @@
 ghost use Rattle.std.specs.Prelude.{◌≡◌, ◌<◌, ℕ, length, map, pos, IfOk, if◌then◌else◌, None, ◌&&◌};
 ghost use Rattle.std.specs.List.{range_with_len};
 ghost use Rattle.noc_model.specs.Limits.{most_cycles};
-ghost use Rattle.noc_model.specs.Plan.{tiles, ports, lanes, hosts};
+ghost use Rattle.noc_model.specs.Plan.{tiles, ports, link_channels, hosts};
 ghost use Rattle.noc_model.specs.Place.{opposite};
 ghost use Rattle.noc_model.specs.Run.{arrival, return_of, fed, step};
 ghost use Rattle.noc_model.specs.Driver.{driven};
@@ -13,7 +13,7 @@ ghost use Rattle.solo_run.specs.Same.{IsSame, IsSameIn};
 
 use crate::fed::SoloFed;
 use crate::next::next_tile;
-use crate::sizes::{Here, lanes, places, ports, spot_of};
+use crate::sizes::{Here, places, spot_of};
 use crate::tile::SoloTile;
 use flit_word::{LinkFlit, Offer};
 use noc_model::{Plan, Way};
@@ -57,7 +57,7 @@ fn arrivals(
         (range_with_len 0 (ports plan.now))) }
 {
     let mut arrives = Vec::new(alloc);
-    for port in 0..ports(plan) {
+    for port in 0..plan.ports() {
         arrives.push(arrival(plan, here, net, port))?;
     }
     Ok(arrives)
@@ -88,13 +88,13 @@ fn returns(
     requires here { IsHere plan.now here }
     requires all { length net.now ≡ tiles plan.now }
     ensures { IfOk result (λ v. v.items
-        ≡ by_rows (ports plan.now) (lanes plan.now here.domain)
+        ≡ by_rows (ports plan.now) (link_channels plan.now here.domain)
         (return_of plan.now (state_of plan.now here.domain net.now) here.tile)) }
 {
-    let width = lanes(plan, here.domain);
+    let width = plan.link_channels(here.domain);
     let mut returns = Vec::new(alloc);
     for k in 0..places(plan, here.domain) {
-        let at = spot_of(ports(plan), width, k);
+        let at = spot_of(plan.ports(), width, k);
         returns.push(return_of(plan, here, net, at.port, at.entry))?;
     }
     Ok(returns)

@@ -2,7 +2,7 @@
 
 ghost use Rattle.std.specs.Prelude.{◌≡◌, ◌<◌, length, None, slice_index_or};
 
-use crate::sizes::{entry_at, lanes, place};
+use crate::sizes::{entry_at, place};
 use flit_word::{LinkFlit, Offer};
 use noc_model::Plan;
 
@@ -32,7 +32,7 @@ impl SoloFed {
         requires { domain < length plan.now.domains }
         ensures { result ≡ (in_of plan.now domain self.now).returns out channel }
     {
-        let at = place(lanes(plan, domain), out, channel);
+        let at = place(plan.link_channels(domain), out, channel);
         entry_at(self.returns.as_slice(), at, false)
     }
 }

@@ -3,7 +3,7 @@
 ghost use Rattle.std.specs.Prelude.{◌≡◌, ◌<◌, ◌++◌, ◌&&◌, drop, if◌then◌else◌, [], pos, IfOk, option_to_list, All, false, ◌==◌};
 ghost use Rattle.noc_model.specs.declared.Flit.{Flit};
 ghost use Rattle.noc_model.specs.declared.Stage.TheVariants.{Idle, Active};
-ghost use Rattle.noc_model.specs.Plan.{tiles, ports, lanes, at_local};
+ghost use Rattle.noc_model.specs.Plan.{tiles, ports, link_channels, at_local};
 ghost use Rattle.noc_model.specs.Step.{next_stage, one_if, flit_on, comes_in, routed, activated, is_tail, front};
 ghost use Rattle.noc_model.specs.SoundState.{HasOutput};
 ghost use Rattle.solo_run.specs.Solo.{tile_of, in_of};
@@ -13,7 +13,7 @@ use crate::allocate::{is_place, taken_channel, winner};
 use crate::attach::word_in;
 use crate::channel::Channel;
 use crate::fed::SoloFed;
-use crate::sizes::{Here, lanes, place, places, ports, spot_of};
+use crate::sizes::{Here, place, places, spot_of};
 use crate::switch::leaves;
 use crate::tile::SoloTile;
 use dor_routes::route;
@@ -80,7 +80,7 @@ fn next_stage(
     requires here { IsHere plan.now here }
     requires fit { IsFit plan.now here (tile_of plan.now here.domain tile.now) }
     requires port { port < ports plan.now }
-    requires channel { channel < lanes plan.now here.domain }
+    requires channel { channel < link_channels plan.now here.domain }
     requires output { HasOutput plan.now here.domain here.tile stage }
     ensures { result ≡ next_stage plan.now here.domain here.tile (pos here.cycle)
         (tile_of plan.now here.domain tile.now) (in_of plan.now here.domain fed.now) port channel stage }
@@ -89,7 +89,7 @@ fn next_stage(
     match stage {
         Stage::Idle => routed(plan, here, flits),
         Stage::Routed { out } => {
-            let at = place(lanes(plan, here.domain), port, channel);
+            let at = place(plan.link_channels(here.domain), port, channel);
             let won = is_place(winner(plan, here, tile, out), at);
             activated(won, out, taken_channel(plan, here, tile, out))
         }
@@ -179,7 +179,7 @@ fn next_channel(
     requires here { IsHere plan.now here }
     requires fit { IsFit plan.now here (tile_of plan.now here.domain tile.now) }
     requires port { port < ports plan.now }
-    requires channel { channel < lanes plan.now here.domain }
+    requires channel { channel < link_channels plan.now here.domain }
     ensures { IfOk result (λ x. x
         ≡ channel_in (stepped plan.now here (tile_of plan.now here.domain tile.now) (in_of plan.now here.domain fed.now)) port channel) }
 {
@@ -202,13 +202,13 @@ pub(crate) fn next_channels(
 ) -> Result<Vec<Channel>, AllocError>
     requires here { IsHere plan.now here }
     requires fit { IsFit plan.now here (tile_of plan.now here.domain tile.now) }
-    ensures { IfOk result (λ v. v.items ≡ by_rows (ports plan.now) (lanes plan.now here.domain)
+    ensures { IfOk result (λ v. v.items ≡ by_rows (ports plan.now) (link_channels plan.now here.domain)
         (channel_in (stepped plan.now here (tile_of plan.now here.domain tile.now) (in_of plan.now here.domain fed.now)))) }
 {
-    let width = lanes(plan, here.domain);
+    let width = plan.link_channels(here.domain);
     let mut channels = Vec::new(alloc);
     for k in 0..places(plan, here.domain) {
-        let at = spot_of(ports(plan), width, k);
+        let at = spot_of(plan.ports(), width, k);
         channels.push(next_channel(alloc, plan, here, tile, fed, at.port, at.entry)?)?;
     }
     Ok(channels)

@@ -14,12 +14,12 @@ mod cycle;
 mod fed;
 mod inputs;
 mod next;
+mod notify;
 mod outputs;
 mod pointers;
 mod run;
 mod sizes;
 mod switch;
-mod tell;
 #[cfg(test)]
 mod tests;
 mod tile;

@@ -2,14 +2,14 @@
 
 ghost use Rattle.std.specs.Prelude.{◌≡◌, ◌<◌, ◌≤◌, ◌+◌, ◌-◌, ◌&&◌, ◌||◌, not, IfOk};
 ghost use Rattle.noc_model.specs.Limits.{most_cycles};
-ghost use Rattle.noc_model.specs.Plan.{ports, lanes};
+ghost use Rattle.noc_model.specs.Plan.{ports, link_channels};
 ghost use Rattle.noc_model.specs.Step.{is_on, is_tail_on, one_if};
 ghost use Rattle.solo_run.specs.Solo.{tile_of, in_of};
 ghost use Rattle.solo_run.specs.Parts.{IsHere, IsFit, stepped, output_in, by_rows};
 
 use crate::allocate::{is_place, taken_channel};
 use crate::fed::SoloFed;
-use crate::sizes::{Here, lanes, places, ports, spot_of};
+use crate::sizes::{Here, places, spot_of};
 use crate::switch::sent;
 use crate::tile::{OutChannel, SoloTile};
 use flit_word::LinkFlit;
@@ -64,7 +64,7 @@ fn next_output(
     requires here { IsHere plan.now here }
     requires fit { IsFit plan.now here (tile_of plan.now here.domain tile.now) }
     requires out { out < ports plan.now }
-    requires channel { channel < lanes plan.now here.domain }
+    requires channel { channel < link_channels plan.now here.domain }
     requires cycle { here.cycle < most_cycles }
     ensures { result
         ≡ output_in (stepped plan.now here (tile_of plan.now here.domain tile.now) (in_of plan.now here.domain fed.now)) out channel }
@@ -92,13 +92,13 @@ pub(crate) fn next_outputs(
     requires here { IsHere plan.now here }
     requires fit { IsFit plan.now here (tile_of plan.now here.domain tile.now) }
     requires cycle { here.cycle < most_cycles }
-    ensures { IfOk result (λ v. v.items ≡ by_rows (ports plan.now) (lanes plan.now here.domain)
+    ensures { IfOk result (λ v. v.items ≡ by_rows (ports plan.now) (link_channels plan.now here.domain)
         (output_in (stepped plan.now here (tile_of plan.now here.domain tile.now) (in_of plan.now here.domain fed.now)))) }
 {
-    let width = lanes(plan, here.domain);
+    let width = plan.link_channels(here.domain);
     let mut outputs = Vec::new(alloc);
     for k in 0..places(plan, here.domain) {
-        let at = spot_of(ports(plan), width, k);
+        let at = spot_of(plan.ports(), width, k);
         outputs.push(next_output(plan, here, tile, fed, at.port, at.entry))?;
     }
     Ok(outputs)
@@ -142,7 +142,7 @@ pub(crate) fn next_rows(
     plan.known();
     let stages = plan.stages();
     let mut rows = Vec::new(alloc);
-    let count = ports(plan);
+    let count = plan.ports();
     for k in 0..count * stages {
         let at = spot_of(count, stages, k);
         rows.push(next_place(plan, here, tile, fed, at.port, at.entry))?;

@@ -11,7 +11,7 @@ ghost use Rattle.solo_run.specs.Parts.{IsFit};
 ghost use Rattle.solo_run.specs.Same.{IsSame};
 
 use crate::cycle::next_tiles;
-use crate::tell::{add_events, tell};
+use crate::notify::{add_events, notify};
 use crate::tile::{SoloTile, start_tile};
 use noc_model::{Event, Plan};
 use std::alloc::{AllocError, Global};
@@ -31,7 +31,7 @@ fn start_tiles(alloc: Global, plan: &Plan, domain: u32) -> Result<Vec<SoloTile>,
     Ok(tiles)
 }
 
-/// One cycle: adds its events, tells the driver, and makes the tiles after it.
+/// One cycle: adds its events, notifies the driver, and makes the tiles after it.
 fn one_cycle<D: Drive>(
     alloc: Global,
     plan: &Plan,
@@ -60,11 +60,15 @@ fn one_cycle<D: Drive>(
 {
     add_events(events, plan, d, cycle, net, drive)?;
     let next = next_tiles(alloc, plan, d, cycle, net, drive)?;
-    tell(drive, plan, d, cycle, net);
+    notify(drive, plan, d, cycle, net);
     Ok(next)
 }
 
 /// The events of domain `d` alone in the cycles from 0 to `cycles` - 1, with this driver at its attachments.
+///
+/// # Errors
+///
+/// When memory runs out.
 pub fn solo_events<D: Drive>(
     alloc: Global,
     plan: &Plan,

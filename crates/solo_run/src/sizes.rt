@@ -1,7 +1,7 @@
 //! Where a step is, and how many ports, channels and places there are.
 
 ghost use Rattle.std.specs.Prelude.{◌≡◌, ◌<◌, ◌≤◌, ◌+◌, ◌*◌, ◌/◌, ◌%◌, length, slice_index_or};
-ghost use Rattle.noc_model.specs.Plan.{ports, channels, lanes, in_channels, at_local};
+ghost use Rattle.noc_model.specs.Plan.{ports, channels, link_channels, in_channels, at_local};
 
 use noc_model::Plan;
 
@@ -13,47 +13,17 @@ pub(crate) struct Here {
     pub cycle: u32,
 }
 
-/// The ports of a tile.
-pub(crate) fn ports(plan: &Plan) -> u32
-    ensures value { result ≡ ports plan.now }
-    ensures few { result ≤ 7 }
-{
-    plan.known();
-    1 + 2 * plan.dims()
-}
-
-/// The channels of a class.
-pub(crate) fn channels(plan: &Plan, domain: u32) -> u32
-    requires { domain < length plan.now.domains }
-    ensures value { result ≡ channels plan.now domain }
-    ensures some { 1 ≤ result }
-    ensures few { result ≤ 4 }
-{
-    plan.known();
-    plan.channels(domain)
-}
-
-/// The channels on a link.
-pub(crate) fn lanes(plan: &Plan, domain: u32) -> u32
-    requires { domain < length plan.now.domains }
-    ensures value { result ≡ lanes plan.now domain }
-    ensures some { 1 ≤ result }
-    ensures few { result ≤ 8 }
-{
-    plan.classes() * channels(plan, domain)
-}
-
 /// The channels at an input port.
 pub(crate) fn in_channels(plan: &Plan, domain: u32, port: u32) -> u32
     requires { domain < length plan.now.domains }
     ensures value { result ≡ in_channels plan.now domain port }
-    ensures within { result ≤ lanes plan.now domain }
+    ensures within { result ≤ link_channels plan.now domain }
     ensures few { result ≤ 8 }
 {
     if port == 0 {
-        channels(plan, domain)
+        plan.channels(domain)
     } else {
-        lanes(plan, domain)
+        plan.link_channels(domain)
     }
 }
 
@@ -63,17 +33,17 @@ pub(crate) fn out_width(plan: &Plan, domain: u32, port: u32) -> u32
     ensures value { result ≡ at_local port 1 (channels plan.now domain) }
     ensures few { result ≤ 4 }
 {
-    let width = channels(plan, domain);
+    let width = plan.channels(domain);
     if port == 0 { 1 } else { width }
 }
 
 /// The places of all ports' channels.
 pub(crate) fn places(plan: &Plan, domain: u32) -> u32
     requires { domain < length plan.now.domains }
-    ensures value { result ≡ ports plan.now * lanes plan.now domain }
+    ensures value { result ≡ ports plan.now * link_channels plan.now domain }
     ensures few { result ≤ 56 }
 {
-    ports(plan) * lanes(plan, domain)
+    plan.ports() * plan.link_channels(domain)
 }
 
 /// The place of a port's entry, where each port has so many.

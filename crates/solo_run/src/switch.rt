@@ -1,7 +1,7 @@
 //! The switch: which flits go through it.
 
 ghost use Rattle.std.specs.Prelude.{◌≡◌, ◌<◌, pos, IfSome, is_none, option_and_then, ◌||◌, ◌&&◌, ◌==◌, nat_lt};
-ghost use Rattle.noc_model.specs.Plan.{ports, lanes, in_channels};
+ghost use Rattle.noc_model.specs.Plan.{ports, link_channels, in_channels};
 ghost use Rattle.noc_model.specs.Pick.{least, pick};
 ghost use Rattle.noc_model.specs.Step.{takes, is_ready, grant_at, asked, asks_for, chosen, granted_to, grant, is_channel, leaves, front, with_channel, sent};
 ghost use Rattle.noc_model.specs.SoundState.{IsOutput};
@@ -10,7 +10,7 @@ ghost use Rattle.solo_run.specs.Parts.{IsHere, IsFit, from_on};
 
 use crate::allocate::is_from_on;
 use crate::fed::SoloFed;
-use crate::sizes::{Here, in_channels, ports};
+use crate::sizes::{Here, in_channels};
 use crate::tile::SoloTile;
 use flit_word::{Flit, LinkFlit};
 use noc_model::{Grant, Plan, Stage};
@@ -62,7 +62,7 @@ fn is_ready(
     requires here { IsHere plan.now here }
     requires fit { IsFit plan.now here (tile_of plan.now here.domain tile.now) }
     requires port { port < ports plan.now }
-    requires channel { channel < lanes plan.now here.domain }
+    requires channel { channel < link_channels plan.now here.domain }
     ensures { result ≡ is_ready plan.now here.domain here.tile (pos here.cycle)
         (tile_of plan.now here.domain tile.now) (in_of plan.now here.domain fed.now) port channel }
 {
@@ -170,7 +170,7 @@ fn first_asking(
     ensures below { IfSome result (λ port. port < ports plan.now) }
     ensures few { IfSome result (λ port. port < 7) }
 {
-    for port in 0..ports(plan) {
+    for port in 0..plan.ports() {
         let member = asks_for(asked(plan, here, tile, fed, port), out);
         if is_from_on(from, port, member) {
             return Some(port);

@@ -31,7 +31,7 @@ fn add_line(alloc: Global, text: &mut String, event: &Event) -> Result<(), Alloc
 }
 
 /// The lines of a domain's events.
-fn told(alloc: Global, plan: &Plan, trace: &str, d: u32, cycles: u32) -> Result<String, Fail>
+fn printed(alloc: Global, plan: &Plan, trace: &str, d: u32, cycles: u32) -> Result<String, Fail>
     requires { cycles ≤ 100 }
 {
     let Ok(trace) = read_trace(alloc, plan, trace.as_bytes()) else {
@@ -53,13 +53,13 @@ fn told(alloc: Global, plan: &Plan, trace: &str, d: u32, cycles: u32) -> Result<
 fn a_packet_that_leads_nowhere_is_dropped(rt: HostRuntime) -> Result<(), Fail> {
     let alloc = rt.alloc();
     let plan = one_tile(alloc)?;
-    let text = told(alloc, &plan, "0 0 a send 99 1 2\n", 0, 4)?;
+    let text = printed(alloc, &plan, "0 0 a send 99 1 2\n", 0, 4)?;
     assert_eq!(&rt;
         text.as_str(),
         "0/0 take 1\n1/0 take 2\n1/0 drop\n2/0 drop\n"
     );
     let plan = split_domains(alloc)?;
-    let text = told(alloc, &plan, "0 0 a send 100 5\n", 0, 4)?;
+    let text = printed(alloc, &plan, "0 0 a send 100 5\n", 0, 4)?;
     assert_eq!(&rt; text.as_str(), "0/0 take 5\n1/0 drop\n");
     Ok(())
 }
@@ -72,7 +72,7 @@ fn a_slot_is_its_domains_alone(rt: HostRuntime) -> Result<(), Fail> {
         (0, "0/0 take a\n9/1 got 11 a\n"),
         (1, "0/0 take b\n8/1 got 11 b\n"),
     ] {
-        let text = told(alloc, &plan, "0 0 a send 100 a\n0 0 b send 100 b\n", d, 12)?;
+        let text = printed(alloc, &plan, "0 0 a send 100 a\n0 0 b send 100 b\n", d, 12)?;
         assert_eq!(&rt; text.as_str(), events);
     }
     Ok(())
@@ -82,10 +82,10 @@ fn a_slot_is_its_domains_alone(rt: HostRuntime) -> Result<(), Fail> {
 fn a_ring_is_left_by_the_shorter_way(rt: HostRuntime) -> Result<(), Fail> {
     let alloc = rt.alloc();
     let plan = ring_of_three(alloc)?;
-    let text = told(alloc, &plan, "0 2 a send 0 9\n", 0, 10)?;
+    let text = printed(alloc, &plan, "0 2 a send 0 9\n", 0, 10)?;
     assert_eq!(&rt; text.as_str(), "0/2 take 9\n8/0 got 11 9\n");
     let plan = ring_of_four(alloc)?;
-    let text = told(alloc, &plan, "0 0 a send 200 7\n", 0, 14)?;
+    let text = printed(alloc, &plan, "0 0 a send 200 7\n", 0, 14)?;
     assert_eq!(&rt; text.as_str(), "0/0 take 7\n12/2 got 11 7\n");
     Ok(())
 }
@@ -95,7 +95,7 @@ fn two_packets_meet_at_an_output(rt: HostRuntime) -> Result<(), Fail> {
     let alloc = rt.alloc();
     let plan = three_in_a_row(alloc)?;
     let trace = "0 0 a send 100 a1 a2\n0 2 a send 100 b1 b2\n";
-    let text = told(alloc, &plan, trace, 0, 14)?;
+    let text = printed(alloc, &plan, trace, 0, 14)?;
     assert_eq!(&rt;
         text.as_str(),
         "0/0 take a1\n0/2 take b1\n1/0 take a2\n1/2 take b2\n8/1 got 10 b1\n9/1 got 01 b2\n11/1 got 10 a1\n12/1 got 01 a2\n"
@@ -113,7 +113,7 @@ fn packets_ride_the_wave_both_ways(rt: HostRuntime) -> Result<(), Fail> {
         (1, "0/4 take 2\n32/0 got 11 2\n"),
         (2, "0/0 take 3\n34/4 got 11 3\n"),
     ] {
-        let text = told(alloc, &plan, trace, d, 36)?;
+        let text = printed(alloc, &plan, trace, d, 36)?;
         assert_eq!(&rt; text.as_str(), events);
     }
     Ok(())

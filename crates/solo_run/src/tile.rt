@@ -9,7 +9,7 @@ ghost use Rattle.solo_run.specs.Parts.{output_in};
 ghost use Rattle.solo_run.specs.Same.{IsSame};
 
 use crate::channel::Channel;
-use crate::sizes::{entry_at, lanes, place, places, ports};
+use crate::sizes::{entry_at, place, places};
 use flit_word::{Flit, LinkFlit};
 use noc_model::{Packet, Plan, Stage};
 use std::alloc::{AllocError, Global};
@@ -55,7 +55,7 @@ impl SoloTile {
         requires { domain < length plan.now.domains }
         ensures { result.now ≡ (tile_of plan.now domain self.now).queue port channel }
     {
-        let at = place(lanes(plan, domain), port, channel);
+        let at = place(plan.link_channels(domain), port, channel);
         match self.channels.get(at) {
             Some(found) => found.flits(),
             None => &[],
@@ -67,7 +67,7 @@ impl SoloTile {
         requires { domain < length plan.now.domains }
         ensures { result ≡ (tile_of plan.now domain self.now).stage port channel }
     {
-        let at = place(lanes(plan, domain), port, channel);
+        let at = place(plan.link_channels(domain), port, channel);
         match self.channels.get(at) {
             Some(found) => found.stage(),
             None => Stage::Idle,
@@ -79,7 +79,7 @@ impl SoloTile {
         requires { domain < length plan.now.domains }
         ensures { result ≡ (tile_of plan.now domain self.now).pulse port channel }
     {
-        let at = place(lanes(plan, domain), port, channel);
+        let at = place(plan.link_channels(domain), port, channel);
         match self.channels.get(at) {
             Some(found) => found.pulse(),
             None => false,
@@ -95,7 +95,7 @@ impl SoloTile {
             held: false,
             credits: 0,
         };
-        let at = place(lanes(plan, domain), out, channel);
+        let at = place(plan.link_channels(domain), out, channel);
         entry_at(self.outputs.as_slice(), at, none)
     }
 
@@ -175,7 +175,7 @@ pub(crate) fn start_tile(alloc: Global, plan: &Plan, domain: u32) -> Result<Solo
         switch: 0,
         turn: 0,
     };
-    let width = ports(plan);
+    let width = plan.ports();
     Ok(SoloTile {
         channels: empty_channels(alloc, count)?,
         outputs: filled(alloc, count, output)?,

@@ -2,12 +2,13 @@
 use Rattle.std.specs.Prelude.{◌≡◌, ℕ, ◌≤◌, List, ◌++◌, Option, Result, Ok, Err}
 use Rattle.surf_base.specs.Outside.{Rose, appended}
 
--- what a sink has, where it tells that, what a block has gathered for it, and the sink's count of faults
+-- what a sink has, where that is observed, what a block has gathered for it, and the sink's count of faults
 pub record Stream : Type 0 where
   pub written : Option (List ℕ)
   pub gathered : List ℕ
   pub faults : ℕ
 
+-- the stream of these parts
 abbrev pub stream : Option (List ℕ) → List ℕ → ℕ → Stream
 stream written gathered faults = record { written = written; gathered = gathered; faults = faults }
 

@@ -96,6 +96,10 @@ fn put_in<O: Sink>(bytes: &mut Vec<u8>, sink: &mut O, piece: &[u8]) -> Result<()
 
 impl Block {
     /// An empty block, which takes all its memory here.
+    ///
+    /// # Errors
+    ///
+    /// When memory runs out.
     pub fn new(alloc: Global) -> Result<Block, AllocError>
         ensures { IfOk result (λ block. block ≡ []) }
     {
@@ -112,6 +116,10 @@ impl Block {
 
     /// Adds a piece, and hands on what is gathered where there is no room. On an error the sink has got a prefix of
     /// what was gathered and the piece.
+    ///
+    /// # Errors
+    ///
+    /// When the sink fails: its count of faults has then risen.
     pub fn put<O: Sink>(&mut self, sink: &mut O, piece: &[u8]) -> Result<(), Failed>
         ensures { Writes result (stream (O.written sink.old) self.old (O.faults sink.old))
             (stream (O.written sink.new) self.new (O.faults sink.new)) piece.now }
@@ -123,6 +131,10 @@ impl Block {
     }
 
     /// Puts a number in decimal.
+    ///
+    /// # Errors
+    ///
+    /// When the sink fails: its count of faults has then risen.
     pub fn put_number<O: Sink>(&mut self, sink: &mut O, value: u64) -> Result<(), Failed>
         ensures { Writes result (stream (O.written sink.old) self.old (O.faults sink.old))
             (stream (O.written sink.new) self.new (O.faults sink.new)) (decimal_digits value) }
@@ -133,6 +145,10 @@ impl Block {
     }
 
     /// Puts a number in decimal, and a byte.
+    ///
+    /// # Errors
+    ///
+    /// When the sink fails: its count of faults has then risen.
     pub fn put_number_then<O: Sink>(
         &mut self,
         sink: &mut O,
@@ -149,6 +165,10 @@ impl Block {
     }
 
     /// Puts a label, and a number in decimal.
+    ///
+    /// # Errors
+    ///
+    /// When the sink fails: its count of faults has then risen.
     pub fn put_labelled<O: Sink>(
         &mut self,
         sink: &mut O,
@@ -165,6 +185,10 @@ impl Block {
     }
 
     /// Hands on all that is gathered. On an error the sink has got a prefix of it.
+    ///
+    /// # Errors
+    ///
+    /// When the sink fails: its count of faults has then risen.
     pub fn flush<O: Sink>(&mut self, sink: &mut O) -> Result<(), Failed>
         ensures writes { Writes result (stream (O.written sink.old) self.old (O.faults sink.old))
             (stream (O.written sink.new) self.new (O.faults sink.new)) [] }

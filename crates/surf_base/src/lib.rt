@@ -4,7 +4,7 @@
 //! The traits `Files` and `Sink` say what a file and a sink mean. `write_all` and `read_whole` go by
 //! these alone: all bytes, or a failure that the object's count of faults shows. `MemFiles` and
 //! `MemSink` are fakes over memory that fail where a script says so; `RealFiles` and `RealSink` stand
-//! on std and tell no content. What the bytes say is left to the crates above.
+//! on std, and their content is not observed. What the bytes say is left to the crates above.
 #![tactic(auto)]
 
 mod block;

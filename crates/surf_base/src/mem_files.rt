@@ -33,6 +33,10 @@ impl MemFiles {
     ghost use Rattle.surf_base.specs.MemFiles.{held_of, left_of, SameButHeld};
 
     /// No files yet; a read gives at most `step` bytes, and the calls with the numbers `fails` fail.
+    ///
+    /// # Errors
+    ///
+    /// When memory runs out.
     pub fn new(alloc: Global, step: usize, fails: &[u64]) -> Result<Self, AllocError>
         requires { 1 ≤ step }
         ensures absent { IfOk result (λ files. (name : List ℕ) → held_of files name ≡ Absent) }
@@ -56,6 +60,10 @@ impl MemFiles {
     }
 
     /// Puts a file, in place of one of the same name. The opened file stays as it is.
+    ///
+    /// # Errors
+    ///
+    /// When memory runs out.
     pub fn put(&mut self, name: &str, content: &[u8]) -> Result<(), AllocError>
         ensures held { OnOk result (held_of self.new name.now ≡ Holds content.now) }
         ensures others { (other : List ℕ) → other ≢ name.now →

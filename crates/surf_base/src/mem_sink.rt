@@ -21,6 +21,10 @@ pub struct MemSink {
 impl MemSink {
     /// An empty sink, with all the memory that it will need. A write takes at most `step` bytes, and
     /// the writes with the numbers `fails` fail; they count from 1.
+    ///
+    /// # Errors
+    ///
+    /// When memory runs out.
     pub fn new(alloc: Global, room: usize, step: usize, fails: &[u64]) -> Result<Self, AllocError>
         requires { 1 ≤ step }
         ensures empty { IfOk result (λ sink. sink.got.items ≡ []) }

@@ -141,6 +141,11 @@ fn new_piece(alloc: Global, size: usize) -> Result<Vec<u8>, AllocError>
 /// Reads the file of this name whole, where it is at most `limit` bytes long.
 ///
 /// `TooLong` says that it is longer: then `limit + 1` bytes were handed out, and never more.
+///
+/// # Errors
+///
+/// `Failed` when the file can't be opened or read, `TooLong` when it has more than `limit` bytes, `Memory` when memory runs
+/// out.
 pub fn read_whole<F: Files>(
     alloc: Global,
     files: &mut F,

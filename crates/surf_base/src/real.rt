@@ -4,7 +4,7 @@ ghost use Rattle.surf_base.specs.Outside.{Unobserved};
 use crate::outside::{Failed, Files, Sink};
 use std::{fs, io, rt};
 
-/// The files of the machine. It tells no content, and counts each failure.
+/// The files of the machine. Their content is not observed, and each failure is counted.
 #[derive(Drop)]
 pub struct RealFiles<'a, R: rt::Files> {
     rt: &'a R,
@@ -72,7 +72,7 @@ impl<'a, R: rt::Files> Files for RealFiles<'a, R> {
     }
 }
 
-/// A sink over a writer, as standard output. It tells no bytes, and counts each failure.
+/// A sink over a writer, as standard output. Its bytes are not observed, and each failure is counted.
 #[derive(Drop)]
 pub struct RealSink<W: io::Write + Drop> {
     writer: W,

@@ -35,6 +35,10 @@ impl<T> Seq<T> {
     }
 
     /// The empty list, with memory for `count` elements.
+    ///
+    /// # Errors
+    ///
+    /// When memory runs out.
     pub fn with_capacity(alloc: Global, count: usize) -> Result<Seq<T>, AllocError>
         ensures { IfOk result (λ s. s ≡ []) }
     {
@@ -74,6 +78,10 @@ impl<T> Seq<T> {
 
 impl<T: Drop> Seq<T> {
     /// Adds an element at the end. The list stays as it was when memory runs out.
+    ///
+    /// # Errors
+    ///
+    /// When memory runs out.
     pub fn push(&mut self, item: T) -> Result<(), AllocError>
         ensures ok { OnOk result (self.new ≡ self.old ++ item ∷ []) }
         ensures err { OnErr result (self.new ≡ self.old) }
@@ -85,6 +93,10 @@ impl<T: Drop> Seq<T> {
 
 impl<T: Copy> Seq<T> {
     /// A list of these elements.
+    ///
+    /// # Errors
+    ///
+    /// When memory runs out.
     pub fn from_slice(alloc: Global, items: &[T]) -> Result<Seq<T>, AllocError>
         ensures { IfOk result (λ s. s ≡ items.now) }
     {
@@ -93,6 +105,10 @@ impl<T: Copy> Seq<T> {
     }
 
     /// An equal list.
+    ///
+    /// # Errors
+    ///
+    /// When memory runs out.
     pub fn copy(&self, alloc: Global) -> Result<Seq<T>, AllocError>
         ensures { IfOk result (λ s. s ≡ self.now) }
     {

@@ -4,6 +4,10 @@ ghost use Rattle.surf_base.specs.Outside.{Rose, appended, GotPrefix};
 use crate::outside::{Failed, Sink};
 
 /// Writes all of `bytes`, piece by piece; where the sink fails, a prefix of them was written.
+///
+/// # Errors
+///
+/// When the sink fails: its count of faults has then risen.
 pub fn write_all<O: Sink>(sink: &mut O, bytes: &[u8]) -> Result<(), Failed>
     ensures faults { O.faults sink.old ≤ O.faults sink.new }
     ensures ok { OnOk result (O.written sink.new ≡ appended (O.written sink.old) bytes.now) }

@@ -1,11 +1,8 @@
 -- A domain that is looked for, and its report.
 use Rattle.std.proofs.Common.{◌≡◌, ◌<◌, ℕ, List, length, inr, refl, ◌∙◌, ap, sym, subst}
-use Rattle.std.specs.Prelude.{Option, Some, None, IfSome, IfNone, ◌≢◌}
-use Rattle.noc_model.specs.Plan.{Plan, name_of}
-use Rattle.noc_model.specs.Sound.{IsSound}
+use Rattle.std.specs.Prelude.{Option, Some, None}
+use Rattle.noc_model.specs.Plan.{Plan, domain_named}
 use Rattle.trace_read.specs.declared.entries.Entry.{Entry}
-use Rattle.trace_read.specs.Entries.{domain_named}
-use Rattle.trace_read.proofs.Named.{domain_named-is}
 use Rattle.surf_cli.specs.declared.statuses.End.{End}
 use Rattle.surf_cli.specs.declared.statuses.End.TheVariants.{Refused}
 use Rattle.surf_cli.specs.declared.refusals.Refusal.TheVariants.{NoDomain}
@@ -17,11 +14,9 @@ use Rattle.surf_cli.specs.Answers.{Makes, IsRefused}
 use Rattle.surf_cli.proofs.Makings.{Makes-exactly}
 
 -- the domain that was found
-pub domain-found : (p : Plan) (name : List ℕ) (r : Option ℕ) → IsSound p
-    → IfSome r (λ d. (d < length p.domains) × (name_of p d ≡ name))
-    → IfNone r ((d : ℕ) → d < length p.domains → name_of p d ≢ name)
+pub domain-found : (p : Plan) (name : List ℕ) (r : Option ℕ) → r ≡ domain_named p name
     → (next : ℕ → Outcome) → with_domain p name next ≡ if_found r next
-domain-found p name r sound found absent next = ap (λ x. if_found x next) (sym (domain_named-is p name r sound found absent))
+domain-found p name r found next = ap (λ x. if_found x next) (sym found)
 
 -- none was found
 pub domain-absent : (p : Plan) (name : List ℕ) (next : ℕ → Outcome) → with_domain p name next ≡ if_found None next

@@ -14,5 +14,6 @@ pub record NamedFile : Type 0 where
   pub kind : FileKind
   pub name : List ℕ
 
+-- the file of this kind and name
 abbrev pub file_of : FileKind → List ℕ → NamedFile
 file_of kind name = record { kind = kind; name = name }

@@ -12,10 +12,12 @@ pub data Job : Type 0 where
   Report : (cycles : ℕ) (domain : List ℕ) → Job
   Upgrade : Job
 
+-- the files that the words name, and what is to be done
 pub record Command : Type 0 where
   pub files : List NamedFile
   pub job : Job
 
+-- the command of these files and of this job
 abbrev pub command : List NamedFile → Job → Command
 command files job = record { files = files; job = job }
 

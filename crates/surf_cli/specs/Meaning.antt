@@ -1,7 +1,7 @@
 -- What a command means: the text that it writes, or how it ends without one.
 use Rattle.std.specs.Prelude.{◌≡◌, ℕ, List, ◌∷◌, length, nat_le, if◌then◌else◌, Option, Some, None}
 use Rattle.std.specs.Str.Lines.{lines}
-use Rattle.noc_model.specs.Plan.{Plan}
+use Rattle.noc_model.specs.Plan.{Plan, domain_named}
 use Rattle.noc_desc.specs.Draft as table
 use Rattle.noc_desc.specs.Draft.{table_of, draft_of}
 use Rattle.noc_desc.specs.Document.{document}
@@ -13,7 +13,7 @@ use Rattle.desc_check.specs.Network.{plan_of_draft}
 use Rattle.desc_check.specs.Accepted.{first_fault}
 use Rattle.trace_read.specs.declared.entries.Entry.{Entry}
 use Rattle.trace_read.specs.declared.fault.TraceFault.{TraceFault}
-use Rattle.trace_read.specs.Entries.{entries, domain_named}
+use Rattle.trace_read.specs.Entries.{entries}
 use Rattle.trace_read.specs.Accepted as trace
 use Rattle.surf_cli.specs.declared.files.FileKind.{FileKind}
 use Rattle.surf_cli.specs.declared.statuses.End.{End}
@@ -52,6 +52,7 @@ pub data Judged : Type 0 where
   Faulty : (fault : DescFault) → Judged
   Described : (plan : Plan) → Judged
 
+-- the plan, unless there is a fault
 abbrev pub judged_plan : Option DescFault → Plan → Judged
 judged_plan (Some fault) plan = Faulty fault
 judged_plan None plan = Described plan
@@ -94,6 +95,7 @@ with_domain p name next = if_found (domain_named p name) next
 abbrev pub with_built : Plan → Outcome → Outcome
 with_built p next = if is_built p then next else refuses NotBuilt
 
+-- what comes next, unless there is a fault
 abbrev pub unless_faulty : Option TraceFault → Outcome → Outcome
 unless_faulty None next = next
 unless_faulty (Some fault) next = refuses (Trace fault)

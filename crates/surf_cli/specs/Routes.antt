@@ -12,6 +12,7 @@ route_line n dest port class = field n ++ field dest ++ field port ++ (decimal c
 unfoldable pub route_text : Plan → ℕ → ℕ → List ℕ
 route_text p n dest = route_line n dest (route p n dest) (class_after p n 0 0 (route p n dest))
 
+-- the lines of the routes that begin at tile n
 unfoldable pub routes_from : Plan → ℕ → List ℕ
 routes_from p n = texts_below (tiles p) (route_text p n)
 

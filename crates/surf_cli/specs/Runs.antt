@@ -19,6 +19,7 @@ pub record Outside : Type 0 where
   pub written : Option (List ℕ)
   pub faults : ℕ
 
+-- what is seen of files and of a sink
 abbrev pub outside : (List ℕ → Held) → ℕ → ℕ → Option (List ℕ) → ℕ → Outside
 outside held taken file_faults written faults =
     record { held = held; taken = taken; file_faults = file_faults; written = written; faults = faults }

@@ -16,9 +16,11 @@ owner_line p t n port = link_line t n port (name_of p (owner p n port (pos t)))
 unfoldable pub port_text : Plan → ℕ → ℕ → ℕ → List ℕ
 port_text p t n port = if is_some (neighbour p n port) then owner_line p t n port else []
 
+-- the lines of tile n in a cycle
 unfoldable pub tile_text : Plan → ℕ → ℕ → List ℕ
 tile_text p t n = texts_below (ports p) (port_text p t n)
 
+-- the lines of a cycle
 unfoldable pub cycle_text : Plan → ℕ → List ℕ
 cycle_text p t = texts_below (tiles p) (tile_text p t)
 

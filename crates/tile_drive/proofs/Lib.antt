@@ -1,5 +1,7 @@
+pub mod Following
 pub mod InOrder
-pub mod LaneLemmas
+pub mod ScriptLemmas
 pub mod Restricted
 mod Rows
 pub mod SpanLemmas
+pub mod SeenEvents

@@ -3,9 +3,9 @@ use Rattle.std.proofs.Common.{◌≡◌, ℕ, zero, suc, ◌≤◌, ◌+◌, max
 use Rattle.std.specs.List.{list_any}
 use Rattle.std.specs.List.Sorted.{IsPartitionPoint}
 use Rattle.std.proofs.lemmas.Bool.Decides.{nat_tests}
-use Rattle.tile_drive.specs.declared.lanes.Span.{Span}
+use Rattle.tile_drive.specs.declared.scripts.Span.{Span}
 use Rattle.tile_drive.specs.TraceDriver.{covers}
-use Rattle.tile_drive.specs.Lanes.{ends_from, end_at, AreSettled}
+use Rattle.tile_drive.specs.Scripts.{ends_from, end_at, AreSettled}
 
 -- the first n spans begin by the cycle, and no other does
 abbrev Begun : ℕ → List Span → ℕ → Type 0

@@ -1,4 +1,5 @@
 pub mod Order
 pub mod Seen
+pub mod SeenEvents
 pub mod TraceDriver
-pub mod Lanes
+pub mod Scripts

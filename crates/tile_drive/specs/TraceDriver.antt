@@ -7,8 +7,8 @@ use Rattle.noc_model.specs.Driver.{Driver}
 use Rattle.trace_read.specs.declared.entries.Entry.{Entry}
 use Rattle.trace_read.specs.declared.entries.Entry.TheVariants.{Send, Hold}
 use Rattle.trace_read.specs.Restrict.{entry_attach}
-use Rattle.tile_drive.specs.declared.lanes.Due.{Due}
-use Rattle.tile_drive.specs.declared.lanes.Span.{Span}
+use Rattle.tile_drive.specs.declared.scripts.Due.{Due}
+use Rattle.tile_drive.specs.declared.scripts.Span.{Span}
 
 -- the words of a send, each with its cycle and as it is offered. The send's last word is the last of the packet
 abbrev pub due_words : ℕ → ℕ → List ℕ → List Due

@@ -38,6 +38,10 @@ impl Model for Seen {
 
 impl Seen {
     /// Nothing at each of the plan's attachments.
+    ///
+    /// # Errors
+    ///
+    /// When memory runs out.
     pub fn new(alloc: Global, plan: &Plan) -> Result<Seen, AllocError>
         ensures count { IfOk result (λ seen. length seen ≡ length plan.now.hosts) }
         ensures nothing { IfOk result (λ seen. (j : ℕ) → seen_at seen j ≡ nothing_seen) }

@@ -19,7 +19,7 @@ pub trait Drive: Driving {
         requires { attach < Self.count self.now }
         ensures { result ≡ (Self.driver self.now).hears attach (Self.state self.now attach) cycle };
 
-    /// Tells that the word that is offered at the attachment in the cycle was taken.
+    /// Notifies of a word that was taken: the one that is offered at the attachment in the cycle.
     fn taken(&mut self, attach: u32, cycle: u32)
         requires in_range { attach < Self.count self.old }
         requires offered { IsSome ((Self.driver self.old).offer attach (Self.state self.old attach) cycle) }
@@ -29,7 +29,7 @@ pub trait Drive: Driving {
             ≡ (Self.driver self.old).taken attach (Self.state self.old attach) cycle }
         ensures others { (j : ℕ) → j ≢ attach → Self.state self.new j ≡ Self.state self.old j };
 
-    /// Tells that the flit was given out at the attachment in the cycle, and heard.
+    /// Notifies of a flit that was given out at the attachment in the cycle, and heard.
     fn got(&mut self, attach: u32, cycle: u32, flit: Ejected)
         requires in_range { attach < Self.count self.old }
         requires heard { (Self.driver self.old).hears attach (Self.state self.old attach) cycle ≡ true }

@@ -44,6 +44,10 @@ impl Events {
     }
 
     /// Adds an event that doesn't come before the last one. On an error the list is as it was.
+    ///
+    /// # Errors
+    ///
+    /// When memory runs out. The list is then as it was.
     pub fn push(&mut self, item: Event) -> Result<(), AllocError>
         requires { MayFollow self.old item }
         ensures ok { OnOk result (self.new ≡ self.old ++ item ∷ []) }

@@ -9,16 +9,18 @@
 mod cycle_seen;
 mod driver;
 mod event_list;
-mod lanes;
+mod notifying;
+mod scripts;
+mod seen_events;
 mod spans;
-mod telling;
 mod trace_drive;
 
 pub use cycle_seen::{Seen, SeenAt};
 pub use driver::Drive;
 pub use event_list::Events;
 pub use noc_model::{Event, Kind};
-pub use telling::{tell_got, tell_taken};
+pub use notifying::{notify_got, notify_taken};
+pub use seen_events::push_seen;
 pub use trace_drive::TraceDrive;
 
 #[cfg(test)]

@@ -3,11 +3,11 @@
 ghost use Rattle.std.specs.Prelude.{◌≡◌, ◌+◌, ◌≤◌, nat_le, true, false, length, IfOk};
 ghost use Rattle.std.specs.List.{list_any};
 ghost use Rattle.std.specs.List.Sorted.{IsNonDecreasingBy, IsPermutation, IsPartitionPoint};
-ghost use Rattle.tile_drive.specs.declared.lanes.Span.{Span};
+ghost use Rattle.tile_drive.specs.declared.scripts.Span.{Span};
 ghost use Rattle.tile_drive.specs.TraceDriver.{covers};
-ghost use Rattle.tile_drive.specs.Lanes.{ends_from, end_at, AreSettled};
+ghost use Rattle.tile_drive.specs.Scripts.{ends_from, end_at, AreSettled};
 
-use crate::lanes::Span;
+use crate::scripts::Span;
 use std::alloc::{AllocError, Global};
 
 /// Sorts spans by their cycles.

@@ -2,10 +2,10 @@
 
 ghost use Rattle.std.specs.Prelude.{◌≡◌, ◌<◌, ◌∷◌, [], ℕ, Some, length, slice_get, slice_index, IfOk, vec_len};
 ghost use Rattle.tile_drive.specs.TraceDriver.{trace_driver, untaken};
-ghost use Rattle.tile_drive.specs.Lanes.{AreAllSettled};
+ghost use Rattle.tile_drive.specs.Scripts.{AreAllSettled};
 
 use crate::driver::Drive;
-use crate::lanes::{Lane, lanes_of};
+use crate::scripts::{Script, scripts_of};
 use crate::spans::is_covered;
 use flit_word::{Ejected, Offer};
 use noc_model::{Driving, Plan};
@@ -17,14 +17,18 @@ use trace_read::Trace;
 /// of `hears` takes time by the logarithm of the number of the attachment's holds.
 #[derive(Drop)]
 pub struct TraceDrive {
-    lanes: Vec<Lane>,
+    scripts: Vec<Script>,
     taken: Vec<usize>,
-    ghost same_count: { vec_len taken ≡ vec_len lanes },
-    ghost settled: { AreAllSettled lanes.items },
+    ghost same_count: { vec_len taken ≡ vec_len scripts },
+    ghost settled: { AreAllSettled scripts.items },
 }
 
 impl TraceDrive {
     /// The driver of the trace at the plan's attachments, none of whose words was taken.
+    ///
+    /// # Errors
+    ///
+    /// When memory runs out.
     pub fn new(alloc: Global, plan: &Plan, trace: &Trace) -> Result<TraceDrive, AllocError>
         ensures count { IfOk result (λ drive. ⟦<TraceDrive as Driving>⟧.count drive ≡ length plan.now.hosts) }
         ensures driver { IfOk result (λ drive. ⟦<TraceDrive as Driving>⟧.driver drive
@@ -32,18 +36,18 @@ impl TraceDrive {
         ensures state { IfOk result (λ drive. (j : ℕ) → ⟦<TraceDrive as Driving>⟧.state drive j ≡ untaken) }
     {
         let count = plan.attach_count();
-        let lanes = lanes_of(alloc, count, trace.as_slice())?;
+        let scripts = scripts_of(alloc, count, trace.as_slice())?;
         let taken = vec![in alloc; 0; count as usize]?;
-        Ok(TraceDrive { lanes, taken })
+        Ok(TraceDrive { scripts, taken })
     }
 }
 
 impl Driving for TraceDrive {
-    ghost use Rattle.tile_drive.specs.Lanes.{lanes_driver};
+    ghost use Rattle.tile_drive.specs.Scripts.{scripts_driver};
 
-    ghost count = { λ s. length s.lanes.items };
+    ghost count = { λ s. length s.scripts.items };
 
-    ghost driver = { λ s. lanes_driver s.lanes.items };
+    ghost driver = { λ s. scripts_driver s.scripts.items };
 
     ghost state = { λ s j. slice_index s.taken.items j ∷ [] };
 
@@ -53,16 +57,16 @@ impl Driving for TraceDrive {
 impl Drive for TraceDrive {
     fn offer(&self, attach: u32, cycle: u32) -> Option<Offer> {
         let j = attach as usize;
-        let lane = &self.lanes[j];
-        match lane.due.get(self.taken[j]) {
+        let script = &self.scripts[j];
+        match script.due.get(self.taken[j]) {
             Some(due) if due.cycle <= cycle => Some(due.offer),
             _ => None,
         }
     }
 
     fn hears(&self, attach: u32, cycle: u32) -> bool {
-        let lane = &self.lanes[attach as usize];
-        !is_covered(&lane.spans, &lane.ends, cycle)
+        let script = &self.scripts[attach as usize];
+        !is_covered(&script.spans, &script.ends, cycle)
     }
 
     fn taken(&mut self, attach: u32, cycle: u32) {

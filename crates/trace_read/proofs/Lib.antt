@@ -1,5 +1,4 @@
 pub mod TextLemmas
-pub mod Named
 pub mod FaultLemmas
 pub mod TraceLemmas
 mod Rows

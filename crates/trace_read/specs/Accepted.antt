@@ -22,6 +22,7 @@ fault_from p n (line ∷ more) = or_else (line_fault p n line) (fault_from p (su
 unfoldable pub first_fault : Plan → List ℕ → Option TraceFault
 first_fault p bytes = fault_from p 1 (lines bytes)
 
+-- the entries, unless there is a fault
 abbrev pub unless : Option TraceFault → List Entry → Option (List Entry)
 unless None es = Some es
 unless (Some fault) es = None

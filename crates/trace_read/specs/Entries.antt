@@ -1,9 +1,8 @@
 -- The entry that a line's fields write for a plan.
-use Rattle.std.specs.Prelude.{ℕ, Bool, true, ◌==◌, if◌then◌else◌, List, [], ◌∷◌, map, drop, position, filter_map, codes, Option, Some, None, unwrap_or, slice_index, slice_index_or}
+use Rattle.std.specs.Prelude.{ℕ, Bool, true, ◌==◌, if◌then◌else◌, List, [], ◌∷◌, map, drop, filter_map, codes, Option, Some, None, unwrap_or, slice_index, slice_index_or}
 use Rattle.std.specs.Str.{bytes_eq}
 use Rattle.surf_base.specs.Numbers.{decimal_in, hex_in}
-use Rattle.noc_model.specs.Plan.{Plan, attach_of}
-use Rattle.noc_model.specs.declared.plan.DomainPart.{DomainPart}
+use Rattle.noc_model.specs.Plan.{Plan, attach_of, domain_named}
 use Rattle.trace_read.specs.declared.entries.Entry.{Entry}
 use Rattle.trace_read.specs.declared.entries.Entry.TheVariants.{Send, Hold}
 use Rattle.trace_read.specs.Text.{fields}
@@ -21,6 +20,7 @@ is_skipped (f ∷ fs) = slice_index f 0 == 35
 abbrev pub is_send : List (List ℕ) → Bool
 is_send fs = bytes_eq (field fs 3) (codes "send")
 
+-- the line says that its attachment is deaf for a while
 abbrev pub is_hold : List (List ℕ) → Bool
 is_hold fs = bytes_eq (field fs 3) (codes "hold")
 
@@ -28,16 +28,13 @@ is_hold fs = bytes_eq (field fs 3) (codes "hold")
 abbrev pub number : List ℕ → Option ℕ
 number f = decimal_in 4294967295 f
 
+-- the number, and 0 where there is none
 abbrev pub number_of : List ℕ → ℕ
 number_of f = unwrap_or (number f) 0
 
 -- an address or a word
 abbrev pub word_of : List ℕ → ℕ
 word_of f = unwrap_or (hex_in f) 0
-
--- the domain of this name
-abbrev pub domain_named : Plan → List ℕ → Option ℕ
-domain_named p name = position (λ (x : DomainPart). bytes_eq x.name name) p.domains
 
 -- the attachment of the tile and the domain of this name
 abbrev pub attach_named : Plan → ℕ → List ℕ → ℕ

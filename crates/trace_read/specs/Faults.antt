@@ -2,11 +2,11 @@
 use Rattle.std.specs.Prelude.{ℕ, Bool, not, ◌&&◌, ◌||◌, ◌==◌, nat_le, nat_lt, if◌then◌else◌, List, [], ◌∷◌, length, drop, Option, Some, None, is_none, unwrap_or}
 use Rattle.std.specs.List.{list_any, list_all}
 use Rattle.surf_base.specs.Numbers.{hex_in}
-use Rattle.noc_model.specs.Plan.{Plan, tiles, hosts}
+use Rattle.noc_model.specs.Plan.{Plan, tiles, hosts, domain_named}
 use Rattle.trace_read.specs.declared.fault.TraceFault.{TraceFault}
 use Rattle.trace_read.specs.declared.fault.TraceFault.TheVariants.{Syntax, Number, TileRange, DomainUnknown, NotHosted, WordCount}
 use Rattle.trace_read.specs.Text.{is_plain, fields}
-use Rattle.trace_read.specs.Entries.{field, is_skipped, is_send, is_hold, number, number_of, domain_named}
+use Rattle.trace_read.specs.Entries.{field, is_skipped, is_send, is_hold, number, number_of}
 
 -- a byte that is neither a tab nor printable, or too few fields, or neither a send nor a hold, or a hold of too many
 -- fields

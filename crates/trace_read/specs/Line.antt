@@ -1,4 +1,4 @@
--- The line that tells a fault of a trace.
+-- The line that is printed for a fault of a trace.
 use Rattle.std.specs.Prelude.{ℕ, List, [], ◌∷◌, ◌++◌, codes, Option, Some, None}
 use Rattle.surf_base.specs.Numbers.{labelled}
 use Rattle.trace_read.specs.declared.fault.TraceFault.{TraceFault}
@@ -14,6 +14,7 @@ place_of (NotHosted line) = Some (5, line)
 place_of (WordCount line) = Some (6, line)
 place_of (Memory refused) = None
 
+-- the line of a fault's number and line, and that of memory that ran out
 abbrev pub printed : Option (ℕ × ℕ) → List ℕ
 printed None = codes "surf: no memory\n"
 printed (Some x) = labelled (codes "surf: trace fault ") x.0 ++ labelled (codes " line ") x.1 ++ 10 ∷ []

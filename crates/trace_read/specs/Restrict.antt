@@ -10,6 +10,7 @@ abbrev pub entry_attach : Entry → ℕ
 entry_attach (Send cycle attach address words) = attach
 entry_attach (Hold cycle attach count) = attach
 
+-- whether the host is of domain d
 abbrev pub is_domain : ℕ → Option Host → Bool
 is_domain d None = false
 is_domain d (Some h) = h.domain == d

@@ -1,4 +1,4 @@
-//! The line that tells a fault.
+//! The line that is printed for a fault.
 
 ghost use Rattle.std.specs.Prelude.{◌≡◌, ◌≤◌, length, take, IfSome};
 ghost use Rattle.trace_read.specs.Line.{place_of, printed, line_of};
@@ -37,7 +37,7 @@ fn put_told(buf: &mut [u8], place: Option<(u64, u64)>) -> usize
     }
 }
 
-/// Writes the line that tells a fault, with its LF, to the front of `buf`, and answers its length in bytes: `surf:
+/// Writes the line of a fault, with its LF, to the front of `buf`, and answers its length in bytes: `surf:
 /// trace fault N line L`. Where memory ran out it is `surf: no memory`.
 pub fn fault_line(fault: &TraceFault, buf: &mut [u8; 96]) -> usize
     ensures written { take result buf.new ≡ line_of fault.now }

@@ -7,7 +7,7 @@ ghost use Rattle.surf_base.specs.Numbers.{decimal_in, hex_in};
 ghost use Rattle.noc_model.specs.Plan.{Plan as PlanValue};
 ghost use Rattle.trace_read.specs.declared.fault.TraceFault.{TraceFault};
 ghost use Rattle.trace_read.specs.Text.{fields};
-ghost use Rattle.trace_read.specs.Entries.{is_skipped, is_send, number, word_of, domain_named, attach_named, entry_of, line_entry};
+ghost use Rattle.trace_read.specs.Entries.{is_skipped, is_send, number, word_of, attach_named, entry_of, line_entry};
 ghost use Rattle.trace_read.specs.Faults.{has_no_word, most_words, first_of, place_faults, field_faults, all_faults, line_fault};
 ghost use Rattle.trace_read.specs.Accepted.{MemoryOr};
 ghost use Rattle.trace_read.specs.Heads.{head_fields};
@@ -90,14 +90,6 @@ fn read_words(alloc: Global, text: &[u8], line: u64) -> Result<Words, TraceFault
     Ok(words)
 }
 
-/// The domain of this name.
-fn domain_named(plan: &Plan, name: &[u8]) -> Option<u32>
-    ensures { result ≡ domain_named plan.now name.now }
-{
-    plan.known();
-    plan.find(name)
-}
-
 /// The attachment of the tile and the domain of this name.
 fn attach_named(plan: &Plan, tile: u32, name: &[u8], line: u64) -> Result<u32, TraceFault>
     ensures ok { IfOk result (λ j. (j ≡ attach_named plan.now tile name.now) × ((more : List (Bool × TraceFault)) →
@@ -108,7 +100,7 @@ fn attach_named(plan: &Plan, tile: u32, name: &[u8], line: u64) -> Result<u32, T
     if tile >= plan.tiles() {
         return Err(TraceFault::TileRange { line });
     }
-    let Some(domain) = domain_named(plan, name) else {
+    let Some(domain) = plan.find(name) else {
         return Err(TraceFault::DomainUnknown { line });
     };
     match plan.attach_of(tile, domain) {

@@ -9,6 +9,10 @@ use std::alloc::{AllocError, Global};
 
 impl Entry {
     /// An equal entry.
+    ///
+    /// # Errors
+    ///
+    /// When memory runs out.
     pub fn copy(&self, alloc: Global) -> Result<Entry, AllocError>
         ensures { IfOk result (λ entry. entry ≡ self.now) }
     {

@@ -1,7 +1,7 @@
 -- The best input of an output is the choice from those that want it.
 use Rattle.std.proofs.Common.{◌≡◌, ℕ, zero, suc, ◌*◌, ◌+◌, ◌<◌, ◌≤◌, Bool, true, false, Option, Some, None, refl, sym, ap, ◌∙◌, arith}
 use Rattle.std.specs.Prelude.{is_some, option_map, option_and_then, not, ◌&&◌, nat_le, nat_lt, if◌then◌else◌}
-use Rattle.noc_model.specs.Plan.{Plan, lanes, channels, classes, in_channels, at_local}
+use Rattle.noc_model.specs.Plan.{Plan, link_channels, channels, classes, in_channels, at_local}
 use Rattle.noc_model.specs.Inputs.{input_count, input_port, input_channel, pack}
 use Rattle.noc_model.specs.Pick.{pick, least, number_if}
 use Rattle.noc_model.specs.Tile.{Tile}

@@ -6,7 +6,7 @@ use Rattle.std.proofs.lemmas.Option.{slice_get-get_or}
 use Rattle.noc_model.specs.declared.plan.DomainPart.{DomainPart}
 use Rattle.std.proofs.lemmas.List.{length-map, get_or-map, length-replicate}
 use Rattle.std.proofs.lemmas.List.FromFn.{map-range_with_len_more, get_or-map-range_with_len, length-map-range_with_len}
-use Rattle.noc_model.specs.Plan.{Plan, ports, channels, channels_in, lanes}
+use Rattle.noc_model.specs.Plan.{Plan, ports, channels, channels_in, link_channels}
 use Rattle.noc_model.specs.Sound.{IsSound}
 use Rattle.noc_model.specs.Inputs.{input_count}
 use Rattle.vc_partition.specs.Lanes.{lane}
@@ -60,22 +60,22 @@ module _ (p : Plan) (sound : IsSound p) (n : ℕ) where
   pub is-start : IsAllocator (start_of p n)
   is-start = record {
     few_ports = let a = sound.dims in let b = best in omega (arith, a, b);
-    lanes = length-of (lanes p) ∙ sym (length-of (channels p));
+    link_channels = length-of (link_channels p) ∙ sym (length-of (channels p));
     holders = length-of (λ d. let ks : List (Option ℕ) = replicate (input_count p d) None in ks) ∙ sym (length-of (channels p));
     pointers = length-of (λ d. replicate (ports p) 0) ∙ sym (length-of (channels p));
     some = λ d there. let a = at (channels p) d (below d there) in let h = has-channels d (below d there) in omega (arith, a, h);
-    within = λ d there. let a = at (channels p) d (below d there) in let b = at (lanes p) d (below d there) in let w = within p.torus (channels p d) in omega (arith, a, b, w);
-    few = λ d there. let b = at (lanes p) d (below d there) in let h = has-channels d (below d there) in let w = few p.torus (channels p d) h.1 in omega (arith, b, w);
-    spots = λ d there. lane-length (input_count p) None count d (below d there) ∙ ap (λ k. k * lanes p d) (sym best) ∙ ap (λ k. length (start_of p n).best * k) (sym (at (lanes p) d (below d there)));
+    within = λ d there. let a = at (channels p) d (below d there) in let b = at (link_channels p) d (below d there) in let w = within p.torus (channels p d) in omega (arith, a, b, w);
+    few = λ d there. let b = at (link_channels p) d (below d there) in let h = has-channels d (below d there) in let w = few p.torus (channels p d) h.1 in omega (arith, b, w);
+    spots = λ d there. lane-length (input_count p) None count d (below d there) ∙ ap (λ k. k * link_channels p d) (sym best) ∙ ap (λ k. length (start_of p n).best * k) (sym (at (link_channels p) d (below d there)));
     outputs = λ d there. lane-length (λ d. ports p) 0 count d (below d there) ∙ sym best;
   }
 
   -- an allocator that is made of the lists of a plan is the one at the start
   pub start-is : (cs ls : List ℕ) (hs : List (List (Option ℕ))) (ps : List (List ℕ)) (bs : List (Option Winner)) (ins outs : List ℕ)
-      → cs ≡ map (channels p) (range_with_len 0 count) → ls ≡ map (lanes p) (range_with_len 0 count)
+      → cs ≡ map (channels p) (range_with_len 0 count) → ls ≡ map (link_channels p) (range_with_len 0 count)
       → ins ≡ map (input_count p) (range_with_len 0 count) → hs ≡ map (λ c. replicate c None) ins
       → outs ≡ map (λ d. ports p) (range_with_len 0 count) → ps ≡ map (λ c. replicate c 0) outs → bs ≡ replicate (ports p) None
-      → (let x : Allocator = record { tile = n; channels = cs; lanes = ls; holders = hs; pointers = ps; best = bs } in x) ≡ start_of p n
+      → (let x : Allocator = record { tile = n; channels = cs; link_channels = ls; holders = hs; pointers = ps; best = bs } in x) ≡ start_of p n
   start-is cs ls hs ps bs ins outs ec el ei eh eo ep eb =
       let h = eh ∙ ap (map (λ c. replicate c None)) ei ∙ map-lanes (input_count p) None (range_with_len 0 count) in
       let q = ep ∙ ap (map (λ c. replicate c 0)) eo ∙ map-lanes (λ d. ports p) 0 (range_with_len 0 count) in

@@ -4,7 +4,7 @@ use Rattle.std.specs.Prelude.{slice_get, is_some, ◌&&◌, ◌||◌, ◌==◌, 
 use Rattle.std.proofs.lemmas.Bool.Decides.{nat_tests, eqb_tells}
 use Rattle.noc_model.specs.declared.Stage.{Stage}
 use Rattle.noc_model.specs.declared.Stage.TheVariants.{Idle, Routed, Active}
-use Rattle.noc_model.specs.Plan.{Plan, ports, lanes, channels, classes, in_channels}
+use Rattle.noc_model.specs.Plan.{Plan, ports, link_channels, channels, classes, in_channels}
 use Rattle.noc_model.specs.Inputs.{input_count, input_port, input_channel, unpack}
 use Rattle.noc_model.specs.Pick.{pick}
 use Rattle.noc_model.specs.Tile.{Tile}
@@ -14,7 +14,7 @@ use Rattle.noc_model.proofs.Inputs.{channel-below, class-below}
 use Rattle.noc_model.proofs.Outputs.{class-few}
 use Rattle.vc_partition.specs.Picks.{with_member}
 use Rattle.vc_alloc.specs.declared.Winner.{Winner}
-use Rattle.vc_alloc.specs.Allocator.{Allocator, lanes_at, held_at, best_at, pointer_at, free_in, wanted, with_best, AreOf}
+use Rattle.vc_alloc.specs.Allocator.{Allocator, link_channels_at, held_at, best_at, pointer_at, free_in, wanted, with_best, AreOf}
 use Rattle.vc_alloc.specs.Chosen.{winner_with, with_input, free_at, HaveFree, HoldsAs}
 use Rattle.vc_alloc.specs.Shown.{stage_at, GoesBelow, IsFor, Shows, wanted_by, wanted_at}
 use Rattle.vc_alloc.specs.Progress.{KnowsBelow}

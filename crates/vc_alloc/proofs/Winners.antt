@@ -10,7 +10,7 @@ use Rattle.noc_model.specs.Pick.{least}
 use Rattle.vc_partition.proofs.Picks.{least-found}
 use Rattle.vc_partition.specs.Picks.{comes_first}
 use Rattle.vc_alloc.specs.declared.Winner.{Winner}
-use Rattle.vc_alloc.specs.Allocator.{Allocator, channels_at, lanes_at, held_at, best_at, free_in, better_of, wanted, with_best, AreOf, IsAllocator}
+use Rattle.vc_alloc.specs.Allocator.{Allocator, channels_at, link_channels_at, held_at, best_at, free_in, better_of, wanted, with_best, AreOf, IsAllocator}
 
 -- the first free channel that is found
 pub free-found : (x : Allocator) (d o class j : ℕ) → j < at_local o 1 (channels_at x d)
@@ -21,7 +21,7 @@ free-found x d o class j below none free =
 
 -- a winner is an input of domain d, and wants a channel of it
 abbrev pub IsOf : Allocator → ℕ → Winner → Type 0
-IsOf x d b = (b.place < length x.best * lanes_at x d) × (b.to < lanes_at x d)
+IsOf x d b = (b.place < length x.best * link_channels_at x d) × (b.to < link_channels_at x d)
 
 better-of : (x : Allocator) (d pointer : ℕ) (best : Option Winner) (w : Winner) → ((b : Winner) → best ≡ Some b → IsOf x d b) → IsOf x d w → IsOf x d (better_of pointer best w)
 better-of x d pointer None w old new = new
@@ -32,7 +32,7 @@ better-of x d pointer (Some b) w old new = go (comes_first pointer w.place b.pla
     go false = old b refl
 
 pub wanted-of : (x : Allocator) (d pointer place to : ℕ) (best : Option Winner) → ((b : Winner) → best ≡ Some b → IsOf x d b)
-    → place < length x.best * lanes_at x d → to < lanes_at x d → (b : Winner) → wanted pointer best place (Some to) ≡ Some b → IsOf x d b
+    → place < length x.best * link_channels_at x d → to < link_channels_at x d → (b : Winner) → wanted pointer best place (Some to) ≡ Some b → IsOf x d b
 wanted-of x d pointer place to best old there below b e =
     let w : Winner = record { place = place; to = to } in
     let is : better_of pointer best w ≡ b = cc e in
@@ -54,12 +54,12 @@ with-of x d o n old new k b e =
     (λ w. let same : k ≡ o = w.1 in at (ap (λ j. get_or (set x.best o n) j None) (sym same) ∙ e))
     (λ w. old k b (sym (get_or-set_other x.best o k n None w.1) ∙ e))
     (eqb_tells k o) in (
-      let P : ℕ → Type 0 = λ m. b.place < m * lanes_at x d in subst P (sym long) is.0,
+      let P : ℕ → Type 0 = λ m. b.place < m * link_channels_at x d in subst P (sym long) is.0,
       is.1,
     )
   where
     at : get_or (set x.best o n) o None ≡ Some b → IsOf x d b
     at e = new b (set-some x.best o n b e)
 
-pub places-few : (x : Allocator) (d : ℕ) → IsAllocator x → d < length x.channels → length x.best * lanes_at x d ≤ 56
-places-few x d whole there = let most : length x.best * lanes_at x d ≤ 7 * 8 = mul-le-mul whole.few_ports (whole.few d there) in omega (arith, most)
+pub places-few : (x : Allocator) (d : ℕ) → IsAllocator x → d < length x.channels → length x.best * link_channels_at x d ≤ 56
+places-few x d whole there = let most : length x.best * link_channels_at x d ≤ 7 * 8 = mul-le-mul whole.few_ports (whole.few d there) in omega (arith, most)

@@ -1,7 +1,7 @@
 -- The channel allocator of a tile.
 use Rattle.std.specs.Prelude.{◌≡◌, ℕ, ◌+◌, ◌*◌, ◌<◌, ◌≤◌, Bool, not, List, [], map, replicate, length, slice_index, slice_index_or, slice_set, Option, Some, None, is_some, option_map, if◌then◌else◌}
 use Rattle.std.specs.List.{range_with_len}
-use Rattle.noc_model.specs.Plan.{Plan, ports, lanes, channels, at_local}
+use Rattle.noc_model.specs.Plan.{Plan, ports, link_channels, channels, at_local}
 use Rattle.noc_model.specs.Inputs.{input_count}
 use Rattle.noc_model.specs.Pick.{least}
 use Rattle.vc_partition.specs.Lanes.{lane}
@@ -13,7 +13,7 @@ use Rattle.vc_alloc.specs.declared.Winner.{Winner}
 pub record Allocator : Type 0 where
   pub tile : ℕ
   pub channels : List ℕ
-  pub lanes : List ℕ
+  pub link_channels : List ℕ
   pub holders : List (List (Option ℕ))
   pub pointers : List (List ℕ)
   pub best : List (Option Winner)
@@ -23,12 +23,12 @@ abbrev pub channels_at : Allocator → ℕ → ℕ
 channels_at x d = slice_index x.channels d
 
 -- its channels on a link
-abbrev pub lanes_at : Allocator → ℕ → ℕ
-lanes_at x d = slice_index x.lanes d
+abbrev pub link_channels_at : Allocator → ℕ → ℕ
+link_channels_at x d = slice_index x.link_channels d
 
 -- where the channel w of output o stands among the output channels of domain d
 abbrev pub spot : Allocator → ℕ → ℕ → ℕ → ℕ
-spot x d o w = o * lanes_at x d + w
+spot x d o w = o * link_channels_at x d + w
 
 -- the input that holds channel w of output o
 abbrev pub holder_at : Allocator → ℕ → ℕ → ℕ → Option ℕ
@@ -86,18 +86,18 @@ committed x d o (Some b) = taken (with_best x o None) d o b
 -- the best inputs are inputs of domain d, and want channels of it
 abbrev pub AreOf : Allocator → ℕ → Type 0
 AreOf x d = (o : ℕ) (b : Winner) → best_at x o ≡ Some b
-    → (b.place < length x.best * lanes_at x d) × (b.to < lanes_at x d)
+    → (b.place < length x.best * link_channels_at x d) × (b.to < link_channels_at x d)
 
 -- each domain has its channels, and a holder for each channel of each output and a pointer for each output
 pub record IsAllocator (x : Allocator) : Type 0 where
   pub few_ports : length x.best ≤ 7
-  pub lanes : length x.lanes ≡ length x.channels
+  pub link_channels : length x.link_channels ≡ length x.channels
   pub holders : length x.holders ≡ length x.channels
   pub pointers : length x.pointers ≡ length x.channels
   pub some : (d : ℕ) → d < length x.channels → 1 ≤ channels_at x d
-  pub within : (d : ℕ) → d < length x.channels → channels_at x d ≤ lanes_at x d
-  pub few : (d : ℕ) → d < length x.channels → lanes_at x d ≤ 8
-  pub spots : (d : ℕ) → d < length x.channels → length (lane x.holders d) ≡ length x.best * lanes_at x d
+  pub within : (d : ℕ) → d < length x.channels → channels_at x d ≤ link_channels_at x d
+  pub few : (d : ℕ) → d < length x.channels → link_channels_at x d ≤ 8
+  pub spots : (d : ℕ) → d < length x.channels → length (lane x.holders d) ≡ length x.best * link_channels_at x d
   pub outputs : (d : ℕ) → d < length x.channels → length (lane x.pointers d) ≡ length x.best
 
 -- the allocator of a tile at the start: all channels are free
@@ -105,7 +105,7 @@ abbrev pub start_of : Plan → ℕ → Allocator
 start_of p n = record {
   tile = n;
   channels = map (channels p) (range_with_len 0 (length p.domains));
-  lanes = map (lanes p) (range_with_len 0 (length p.domains));
+  link_channels = map (link_channels p) (range_with_len 0 (length p.domains));
   holders = map (λ d. replicate (input_count p d) None) (range_with_len 0 (length p.domains));
   pointers = map (λ d. replicate (ports p) 0) (range_with_len 0 (length p.domains));
   best = replicate (ports p) None;

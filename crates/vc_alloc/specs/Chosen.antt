@@ -1,6 +1,6 @@
 -- The best input of an output, as a choice from the set of those that want it.
 use Rattle.std.specs.Prelude.{◌≡◌, ℕ, ◌<◌, Bool, true, Option, Some, None, is_some, option_map, if◌then◌else◌}
-use Rattle.noc_model.specs.Plan.{Plan, lanes, channels}
+use Rattle.noc_model.specs.Plan.{Plan, link_channels, channels}
 use Rattle.noc_model.specs.Inputs.{input_port, input_channel}
 use Rattle.noc_model.specs.Tile.{Tile}
 use Rattle.noc_model.specs.Step.{free_for}
@@ -28,4 +28,4 @@ free_at p d n s o k = free_for p d n s o (input_port p d k) (input_channel p d k
 -- the allocator holds the channels of output o that the tile holds
 pub record HoldsAs (x : Allocator) (p : Plan) (d : ℕ) (s : Tile) (o : ℕ) : Type 0 where
   pub channels : channels_at x d ≡ channels p d
-  pub held : (w : ℕ) → w < lanes p d → held_at x d o w ≡ s.held o w
+  pub held : (w : ℕ) → w < link_channels p d → held_at x d o w ≡ s.held o w

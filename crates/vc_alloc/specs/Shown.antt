@@ -2,12 +2,12 @@
 use Rattle.std.specs.Prelude.{◌≡◌, ℕ, ◌<◌, List, length, slice_index_or, nat_lt, if◌then◌else◌}
 use Rattle.noc_model.specs.declared.Stage.{Stage}
 use Rattle.noc_model.specs.declared.Stage.TheVariants.{Idle, Routed, Active}
-use Rattle.noc_model.specs.Plan.{Plan, ports, lanes, channels, in_channels}
+use Rattle.noc_model.specs.Plan.{Plan, ports, link_channels, channels, in_channels}
 use Rattle.noc_model.specs.Inputs.{input_count, input_port, input_channel}
 use Rattle.noc_model.specs.Tile.{Tile}
 use Rattle.noc_model.specs.Step.{class_of}
 use Rattle.vc_partition.specs.Lanes.{lane}
-use Rattle.vc_alloc.specs.Allocator.{Allocator, channels_at, lanes_at, held_at, pointer_at, best_at, free_in, wanted, with_best}
+use Rattle.vc_alloc.specs.Allocator.{Allocator, channels_at, link_channels_at, held_at, pointer_at, best_at, free_in, wanted, with_best}
 
 -- the stage of domain d at the input of place k
 abbrev pub stage_at : List (List Stage) → ℕ → ℕ → Stage
@@ -24,11 +24,11 @@ pub record IsFor (x : Allocator) (p : Plan) (d : ℕ) : Type 0 where
   pub domain : d < length x.channels
   pub port_count : length x.best ≡ ports p
   pub class : channels_at x d ≡ channels p d
-  pub link : lanes_at x d ≡ lanes p d
+  pub link : link_channels_at x d ≡ link_channels p d
 
 -- the tile holds the output channels that the allocator holds, and has its pointers, and the stages of the inputs
 pub record Shows (x : Allocator) (stages : List (List Stage)) (p : Plan) (d : ℕ) (s : Tile) : Type 0 where
-  pub held : (o w : ℕ) → o < ports p → w < lanes p d → held_at x d o w ≡ s.held o w
+  pub held : (o w : ℕ) → o < ports p → w < link_channels p d → held_at x d o w ≡ s.held o w
   pub pointers : (o : ℕ) → o < ports p → pointer_at x d o ≡ s.allocation o
   pub inputs : (k : ℕ) → k < input_count p d → stage_at stages d k ≡ s.stage (input_port p d k) (input_channel p d k)
 

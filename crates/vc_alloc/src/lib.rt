@@ -9,14 +9,14 @@
 
 ghost use Rattle.std.specs.Prelude.{◌≡◌, ◌<◌, ◌≤◌, ◌+◌, ◌*◌, ℕ, true, length, map, replicate, None, IfSome, IfOk};
 ghost use Rattle.std.specs.List.{range_with_len};
-ghost use Rattle.noc_model.specs.Plan.{at_local, channels, lanes, tiles, ports};
+ghost use Rattle.noc_model.specs.Plan.{at_local, channels, link_channels, tiles, ports};
 ghost use Rattle.noc_model.specs.Inputs.{input_count};
 ghost use Rattle.noc_model.specs.Tile.{Tile};
 ghost use Rattle.noc_model.specs.Step.{winner};
 ghost use Rattle.vc_partition.specs.Lanes.{lane};
 ghost use Rattle.vc_alloc.specs.Chosen.{winner_with, free_at};
 ghost use Rattle.vc_alloc.specs.Shown.{stage_at, GoesBelow, IsFor, Shows, wanted_at};
-ghost use Rattle.vc_alloc.specs.Allocator.{channels_at, lanes_at, held_at, best_at, pointer_at, free_in, better_of, wanted, with_best, with_holder, taken, committed, AreOf, start_of};
+ghost use Rattle.vc_alloc.specs.Allocator.{channels_at, link_channels_at, held_at, best_at, pointer_at, free_in, better_of, wanted, with_best, with_holder, taken, committed, AreOf, start_of};
 
 pub mod laws;
 #[cfg(test)]
@@ -26,10 +26,7 @@ use dor_routes::class_after;
 use noc_model::Plan;
 use std::alloc::{AllocError, Global};
 use std::marker::Model;
-use vc_partition::{
-    Lanes, Stage, channel_count, comes_first, input_counts, link_channels, port_count, port_counts,
-    unpack,
-};
+use vc_partition::{Lanes, Stage, channel_count, comes_first, input_counts, port_counts, unpack};
 
 /// An input that gets an output, and the channel that it gets there.
 #[derive(Clone, Copy, Debug, PartialEq, Eq)]
@@ -45,7 +42,7 @@ pub struct Winner {
 pub struct VcAlloc {
     tile: u32,
     channels: Vec<u32>,
-    lanes: Vec<u32>,
+    link_channels: Vec<u32>,
     holders: Lanes<Option<u32>>,
     pointers: Lanes<u32>,
     best: Vec<Option<Winner>>,
@@ -59,7 +56,7 @@ impl Model for VcAlloc {
     ghost view = { λ a. record {
       tile = a.tile;
       channels = a.channels.items;
-      lanes = a.lanes.items;
+      link_channels = a.link_channels.items;
       holders = a.holders;
       pointers = a.pointers;
       best = a.best.items;
@@ -68,7 +65,7 @@ impl Model for VcAlloc {
     ghost invariant = { λ a. IsAllocator (record {
       tile = a.tile;
       channels = a.channels.items;
-      lanes = a.lanes.items;
+      link_channels = a.link_channels.items;
       holders = a.holders;
       pointers = a.pointers;
       best = a.best.items;
@@ -88,11 +85,11 @@ fn class_counts(alloc: Global, plan: &Plan) -> Result<Vec<u32>, AllocError>
 
 /// The channels on a link, of each domain.
 fn link_counts(alloc: Global, plan: &Plan) -> Result<Vec<u32>, AllocError>
-    ensures { IfOk result (λ v. v.items ≡ map (lanes plan.now) (range_with_len 0 (length plan.now.domains))) }
+    ensures { IfOk result (λ v. v.items ≡ map (link_channels plan.now) (range_with_len 0 (length plan.now.domains))) }
 {
     let mut counts = Vec::with_capacity(alloc, plan.domains() as usize)?;
     for d in 0..plan.domains() {
-        counts.push(link_channels(plan, d))?;
+        counts.push(plan.link_channels(d))?;
     }
     Ok(counts)
 }
@@ -120,16 +117,16 @@ impl VcAlloc {
     {
         plan.known();
         let channels = class_counts(alloc, plan)?;
-        let lanes = link_counts(alloc, plan)?;
+        let link_channels = link_counts(alloc, plan)?;
         let inputs = input_counts(alloc, plan)?;
         let outputs = port_counts(alloc, plan)?;
         let holders = Lanes::new(alloc, &inputs, None)?;
         let pointers = Lanes::new(alloc, &outputs, 0)?;
-        let best = unwanted(alloc, port_count(plan))?;
+        let best = unwanted(alloc, plan.ports())?;
         Ok(VcAlloc {
             tile,
             channels,
-            lanes,
+            link_channels,
             holders,
             pointers,
             best,
@@ -140,7 +137,7 @@ impl VcAlloc {
     pub fn held(&self, d: u32, out: u32, w: u32) -> bool
         requires domain { d < length self.now.channels }
         requires output { out < length self.now.best }
-        requires channel { w < lanes_at self.now d }
+        requires channel { w < link_channels_at self.now d }
         ensures { result ≡ held_at self.now d out w }
     {
         self.holders.at(d, self.spot(d, out, w)).is_some()
@@ -150,19 +147,19 @@ impl VcAlloc {
     fn spot(&self, d: u32, out: u32, w: u32) -> u32
         requires domain { d < length self.now.channels }
         requires output { out < length self.now.best }
-        requires channel { w < lanes_at self.now d }
-        ensures value { result ≡ out * lanes_at self.now d + w }
-        ensures below { result < length self.now.best * lanes_at self.now d }
-        ensures few { length self.now.best * lanes_at self.now d ≤ 56 }
+        requires channel { w < link_channels_at self.now d }
+        ensures value { result ≡ out * link_channels_at self.now d + w }
+        ensures below { result < length self.now.best * link_channels_at self.now d }
+        ensures few { length self.now.best * link_channels_at self.now d ≤ 56 }
     {
-        out * self.lanes[d as usize] + w
+        out * self.link_channels[d as usize] + w
     }
 
     /// Frees channel `w` of output `out`, which a packet of domain `d` holds.
     pub fn release(&mut self, d: u32, out: u32, w: u32)
         requires domain { d < length self.old.channels }
         requires output { out < length self.old.best }
-        requires channel { w < lanes_at self.old d }
+        requires channel { w < link_channels_at self.old d }
         requires held { held_at self.old d out w ≡ true }
         ensures { self.new ≡ with_holder self.old d out w None }
     {
@@ -174,9 +171,9 @@ impl VcAlloc {
     fn free_channel(&self, d: u32, out: u32, class: u32) -> Option<u32>
         requires domain { d < length self.now.channels }
         requires output { out < length self.now.best }
-        requires class { class * channels_at self.now d + channels_at self.now d ≤ lanes_at self.now d }
+        requires class { class * channels_at self.now d + channels_at self.now d ≤ link_channels_at self.now d }
         ensures value { result ≡ free_in self.now d out class }
-        ensures below { IfSome result (λ w. w < lanes_at self.now d) }
+        ensures below { IfSome result (λ w. w < link_channels_at self.now d) }
     {
         let from = class * self.class_channels(d);
         for j in 0..self.class_width(d, out) {
@@ -192,7 +189,7 @@ impl VcAlloc {
         requires { d < length self.now.channels }
         ensures value { result ≡ channels_at self.now d }
         ensures some { 1 ≤ result }
-        ensures few { lanes_at self.now d ≤ 8 }
+        ensures few { link_channels_at self.now d ≤ 8 }
     {
         self.channels[d as usize]
     }
@@ -220,8 +217,8 @@ impl VcAlloc {
     pub fn want(&mut self, d: u32, place: u32, out: u32, class: u32)
         requires domain { d < length self.old.channels }
         requires output { out < length self.old.best }
-        requires class { class * channels_at self.old d + channels_at self.old d ≤ lanes_at self.old d }
-        requires place { place < length self.old.best * lanes_at self.old d }
+        requires class { class * channels_at self.old d + channels_at self.old d ≤ link_channels_at self.old d }
+        requires place { place < length self.old.best * link_channels_at self.old d }
         requires same { AreOf self.old d }
         ensures best { self.new ≡ with_best self.old out
             (wanted (pointer_at self.old d out) (best_at self.old out) place (free_in self.old d out class)) }
@@ -252,7 +249,7 @@ impl VcAlloc {
         ensures rest { self.new ≡ record self.old { best = self.new.best } }
         ensures same { AreOf self.new d }
     {
-        for i in 0..port_count(plan) * link_channels(plan, d) {
+        for i in 0..plan.ports() * plan.link_channels(d) {
             self.want_at(plan, d, i, *stages.at(d, i));
         }
     }
@@ -268,9 +265,9 @@ impl VcAlloc {
         ensures best { self.new ≡ wanted_at self.old plan.now d i stage }
         ensures same { AreOf self.new d }
     {
-        let lanes = link_channels(plan, d);
-        let port = i / lanes;
-        let channel = i % lanes;
+        let link_channels = plan.link_channels(d);
+        let port = i / link_channels;
+        let channel = i % link_channels;
         if let Stage::Routed { out } = stage {
             if channel < channel_count(plan, d, port) {
                 let class = class_after(plan, self.tile, port, unpack(plan, d, channel).0, out);
@@ -308,8 +305,8 @@ impl VcAlloc {
     fn hold(&mut self, d: u32, out: u32, winner: Winner)
         requires domain { d < length self.old.channels }
         requires output { out < length self.old.best }
-        requires channel { winner.to < lanes_at self.old d }
-        requires place { winner.place < length self.old.best * lanes_at self.old d }
+        requires channel { winner.to < link_channels_at self.old d }
+        requires place { winner.place < length self.old.best * link_channels_at self.old d }
         ensures { self.new ≡ taken self.old d out winner }
     {
         let spot = self.spot(d, out, winner.to);

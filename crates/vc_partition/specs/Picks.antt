@@ -1,4 +1,4 @@
--- The rotating choice of listed members, and from one member after the other.
+-- The round-robin choice of listed members, and from one member after the other.
 use Rattle.std.specs.Prelude.{ℕ, Bool, false, List, slice_index_or, ◌==◌, nat_lt, nat_le, ◌&&◌, ◌||◌, if◌then◌else◌, Option, Some, None}
 
 -- whether the list has true at place k

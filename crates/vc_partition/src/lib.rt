@@ -16,6 +16,4 @@ mod tests;
 pub use choice::{comes_first, pick};
 pub use lanes::Lanes;
 pub use noc_model::{Grant, Stage};
-pub use numbers::{
-    channel_count, input_counts, link_channels, pack, place, port_count, port_counts, unpack,
-};
+pub use numbers::{channel_count, input_counts, pack, place, port_counts, unpack};

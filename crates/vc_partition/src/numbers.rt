@@ -2,42 +2,12 @@
 
 ghost use Rattle.std.specs.Prelude.{◌≡◌, ◌<◌, ◌≤◌, ◌*◌, ◌+◌, ◌/◌, ◌%◌, length, map, IfOk};
 ghost use Rattle.std.specs.List.{range_with_len};
-ghost use Rattle.noc_model.specs.Plan.{ports, channels, lanes, in_channels, classes};
+ghost use Rattle.noc_model.specs.Plan.{ports, channels, link_channels, in_channels, classes};
 ghost use Rattle.noc_model.specs.Inputs.{place, pack, unpack, input_count};
 ghost use Rattle.vc_partition.specs.Lanes.{total};
 
 use noc_model::Plan;
 use std::alloc::{AllocError, Global};
-
-/// The ports of a tile, at most 7: the local one, and two for each dimension, with a link or without.
-pub fn port_count(plan: &Plan) -> u32
-    ensures value { result ≡ ports plan.now }
-    ensures few { result ≤ 7 }
-{
-    plan.known();
-    1 + 2 * plan.dims()
-}
-
-/// The virtual channels of domain `d` of one class, 1 to 4.
-fn class_channels(plan: &Plan, d: u32) -> u32
-    requires { d < length plan.now.domains }
-    ensures value { result ≡ channels plan.now d }
-    ensures some { 1 ≤ result }
-    ensures few { result ≤ 4 }
-{
-    plan.known();
-    plan.channels(d)
-}
-
-/// The virtual channels of domain `d` on a link, 1 to 8: those of every class.
-pub fn link_channels(plan: &Plan, d: u32) -> u32
-    requires { d < length plan.now.domains }
-    ensures value { result ≡ lanes plan.now d }
-    ensures some { 1 ≤ result }
-    ensures few { result ≤ 8 }
-{
-    plan.classes() * class_channels(plan, d)
-}
 
 /// The virtual channels of domain `d` at an input port, 1 to 8: the local port has those of one class.
 pub fn channel_count(plan: &Plan, d: u32, port: u32) -> u32
@@ -47,9 +17,9 @@ pub fn channel_count(plan: &Plan, d: u32, port: u32) -> u32
     ensures few { result ≤ 8 }
 {
     if port == 0 {
-        class_channels(plan, d)
+        plan.channels(d)
     } else {
-        link_channels(plan, d)
+        plan.link_channels(d)
     }
 }
 
@@ -59,9 +29,9 @@ pub fn pack(plan: &Plan, d: u32, class: u32, ch: u32) -> u32
     requires class { class < classes plan.now }
     requires channel { ch < channels plan.now d }
     ensures value { result ≡ pack plan.now d class ch }
-    ensures below { result < lanes plan.now d }
+    ensures below { result < link_channels plan.now d }
 {
-    class * class_channels(plan, d) + ch
+    class * plan.channels(d) + ch
 }
 
 /// The class of channel `w` of domain `d`, and which channel of the class it is.
@@ -69,7 +39,7 @@ pub fn unpack(plan: &Plan, d: u32, w: u32) -> (u32, u32)
     requires { d < length plan.now.domains }
     ensures { result ≡ unpack plan.now d w }
 {
-    let channels = class_channels(plan, d);
+    let channels = plan.channels(d);
     (w / channels, w % channels)
 }
 
@@ -77,13 +47,13 @@ pub fn unpack(plan: &Plan, d: u32, w: u32) -> (u32, u32)
 pub fn place(plan: &Plan, d: u32, port: u32, ch: u32) -> u32
     requires domain { d < length plan.now.domains }
     requires port { port < ports plan.now }
-    requires channel { ch < lanes plan.now d }
+    requires channel { ch < link_channels plan.now d }
     ensures value { result ≡ place plan.now d port ch }
     ensures below { result < input_count plan.now d }
     ensures few { result < 56 }
 {
     plan.known();
-    port * link_channels(plan, d) + ch
+    port * plan.link_channels(d) + ch
 }
 
 /// How many inputs each domain has at a tile, where every port counts as one with a link: the lengths of lanes with a
@@ -100,7 +70,7 @@ pub fn input_counts(alloc: Global, plan: &Plan) -> Result<Vec<u32>, AllocError>
     plan.known();
     let mut counts = Vec::with_capacity(alloc, plan.domains() as usize)?;
     for d in 0..plan.domains() {
-        counts.push(port_count(plan) * link_channels(plan, d))?;
+        counts.push(plan.ports() * plan.link_channels(d))?;
     }
     Ok(counts)
 }
@@ -119,7 +89,7 @@ pub fn port_counts(alloc: Global, plan: &Plan) -> Result<Vec<u32>, AllocError>
     plan.known();
     let mut counts = Vec::with_capacity(alloc, plan.domains() as usize)?;
     for _ in 0..plan.domains() {
-        counts.push(port_count(plan))?;
+        counts.push(plan.ports())?;
     }
     Ok(counts)
 }

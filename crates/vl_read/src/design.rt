@@ -24,6 +24,10 @@ fn parsed(alloc: Global, bytes: &[u8]) -> Result<Design, ReadError>
 }
 
 /// The design that the bytes spell, or their first fault.
+///
+/// # Errors
+///
+/// The first fault of the text, or `TextFault::Memory` when memory runs out.
 pub fn read_design(alloc: Global, bytes: &[u8]) -> Result<Design, TextFault>
     // What is read is spelled so.
     ensures ok { IfOk result (λ d. Spells bytes.now (views.read_design d)) }

@@ -28,7 +28,7 @@ pub(crate) fn place(scope: &Scope, name: &[u8]) -> usize
     }
 }
 
-// The number after. One that doesn't fit counts as memory that ran out.
+/// The number after. One that doesn't fit counts as memory that ran out.
 pub(crate) fn next(place: usize) -> Result<usize, AllocError>
     ensures { IfOk result (λ n. n ≡ place + 1) }
 {
@@ -45,7 +45,7 @@ fn wide(e: &Expr, scope: &Scope) -> u64
     bits(e, scope.declared, scope.lines)
 }
 
-// As many bits as this, all 1.
+/// As many bits as this, all 1.
 fn mask(width: u64) -> u64
     ensures { result ≡ mask_of width }
 {
@@ -56,7 +56,7 @@ fn mask(width: u64) -> u64
     }
 }
 
-// What bits in front of as many as this are worth.
+/// What bits in front of as many as this are worth.
 fn scale(width: u64) -> u64
     ensures { result ≡ scale_of width }
 {
@@ -71,7 +71,7 @@ pub(crate) fn put(steps: &mut Vec<Step>, to: usize, action: Action) -> Result<()
     Ok(())
 }
 
-// The bits of a net from `low` on.
+/// The bits of a net from `low` on.
 fn part_of(from: usize, low: u32, mask: u64) -> Action
     ensures { result ≡ Action.Bits from low mask }
 {
@@ -152,7 +152,7 @@ pub(crate) fn emit(
     }
 }
 
-// Where the value of the operand will stand, after steps that are added.
+/// Where the value of the operand will stand, after steps that are added.
 #[cycle(emit)]
 #[tactic(auto, using(crate::proofs::Emitting::emitting))]
 fn operand(
@@ -183,7 +183,7 @@ fn fetched(e: &Expr, free: usize, scope: &Scope, steps: &mut Vec<Step>) -> Resul
     }
 }
 
-// Adds the steps that put the parts, one by one, behind what stands at `all`.
+/// Adds the steps that put the parts, one by one, behind what stands at `all`.
 #[cycle(emit)]
 #[tactic(auto, using(crate::proofs::Emitting::emitting))]
 fn in_a_row(es: &[Expr], all: usize, scope: &Scope, steps: &mut Vec<Step>) -> Result<(), AllocError>

@@ -32,7 +32,7 @@ pub struct Machine {
     ports: Vec<usize>,
 }
 
-// What a machine begins with.
+/// What a machine begins with.
 #[derive(Drop)]
 struct Begun {
     parts: Vec<Part>,
@@ -40,7 +40,7 @@ struct Begun {
     ports: Vec<usize>,
 }
 
-// Where the ports stand.
+/// Where the ports stand.
 fn port_places(alloc: Global, ports: &[Port], top: &Scope) -> Result<Vec<usize>, AllocError>
     ensures { IfOk result (λ v. v.items ≡ places_of (place_in top.now.declared.now) ports.now) }
 {
@@ -67,7 +67,7 @@ fn begin(alloc: Global, design: &Design) -> Result<Begun, AllocError>
     Ok(Begun { parts, tops, ports })
 }
 
-// The number at a place, or 0 behind the last.
+/// The number at a place, or 0 behind the last.
 fn number(numbers: &[u64], place: usize) -> u64
     ensures { result ≡ slice_index numbers.now place }
 {
@@ -86,7 +86,7 @@ fn place_at(places: &[usize], port: usize) -> usize
     }
 }
 
-// Gives the top's input ports these numbers, in order.
+/// Gives the top's input ports these numbers, in order.
 fn put_inputs(ports: &[Port], places: &[usize], inputs: &[u64], tops: &mut Cells)
     ensures { tops.new ≡ with_ports ports.now places.now inputs.now tops.old }
 {
@@ -120,7 +120,7 @@ impl Machine {
         Ok(machine)
     }
 
-    // Computes what the output ports of the instances and of the top have.
+    /// Computes what the output ports of the instances and of the top have.
     fn refresh(&mut self)
         ensures { running self.new ≡ record (running self.old) {
           parts = map part_settled (running self.old).parts;

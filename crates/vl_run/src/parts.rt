@@ -85,7 +85,7 @@ pub(crate) fn show_all(parts: &[Part], tops: &mut Cells)
 }
 
 impl Part {
-    // An instance of the leaf with these joins, at reset.
+    /// An instance of the leaf with these joins, at reset.
     fn new(alloc: Global, leaf: &Known, joins: &[Join], top: &Scope) -> Result<Part, AllocError>
         requires { Declares leaf.now.declared.now (leaf_lines (read_leaf leaf.now.leaf.now)) }
         ensures { IfOk result (λ x. IsFresh (place_in top.now.declared.now) (read_leaf leaf.now.leaf.now) joins.now x) }
@@ -96,7 +96,7 @@ impl Part {
     }
 }
 
-// Adds the instance, if the item is one.
+/// Adds the instance, if the item is one.
 fn add_part(
     alloc: Global,
     item: &TopItem,

@@ -63,7 +63,7 @@ impl Model for Program {
     } };
 }
 
-// Adds the steps of an assign.
+/// Adds the steps of an assign.
 fn add_assign(item: &LeafItem, scope: &Scope, steps: &mut Vec<Step>) -> Result<(), AllocError>
     ensures { OnOk result (steps.new.items ≡ steps.old.items ++ item_assigns (place_in scope.now.declared.now) (widths_at scope.now.declared.now scope.now.lines) scope.now.lines (read_item item.now)) }
 {
@@ -92,7 +92,7 @@ fn assigns(alloc: Global, items: &[LeafItem], scope: &Scope) -> Result<Vec<Step>
     Ok(steps)
 }
 
-// The first place that is free behind what the item takes.
+/// The first place that is free behind what the item takes.
 fn after(item: &LeafItem, free: usize) -> Result<usize, AllocError>
     ensures { IfOk result (λ n. n ≡ free_after free (read_item item.now)) }
 {
@@ -103,7 +103,7 @@ fn after(item: &LeafItem, free: usize) -> Result<usize, AllocError>
     }
 }
 
-// Adds the steps that give a memory's enable, index and word to the places from `free` on.
+/// Adds the steps that give a memory's enable, index and word to the places from `free` on.
 fn add_store(
     enable: &Expr,
     index: &Expr,
@@ -125,7 +125,7 @@ fn add_store(
     Ok(())
 }
 
-// Adds the steps that compute what the item takes at an edge.
+/// Adds the steps that compute what the item takes at an edge.
 fn add_next(
     item: &LeafItem,
     free: usize,
@@ -254,7 +254,7 @@ pub(crate) fn resets(
     Ok(steps)
 }
 
-// Whether the leaf has an input port of the name, and whether it has an output port of it.
+/// Whether the leaf has an input port of the name, and whether it has an output port of it.
 fn ways(leaf: &Known, name: &[u8]) -> (bool, bool)
     requires { Declares leaf.now.declared.now (leaf_lines (read_leaf leaf.now.leaf.now)) }
     ensures input { result.0 ≡ is_input_port (port_named leaf.now.leaf.now.ports name.now) }
@@ -266,7 +266,7 @@ fn ways(leaf: &Known, name: &[u8]) -> (bool, bool)
     }
 }
 
-// Adds a link from the top's net to the port, if it is an input port.
+/// Adds a link from the top's net to the port, if it is an input port.
 fn add_feed(
     join: &Join,
     leaf: &Known,
@@ -304,7 +304,7 @@ fn feeds(
     Ok(links)
 }
 
-// Adds a link from the port to the top's net, if it is an output port.
+/// Adds a link from the port to the top's net, if it is an output port.
 fn add_out(
     join: &Join,
     leaf: &Known,

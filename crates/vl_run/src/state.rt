@@ -61,7 +61,7 @@ fn store(stores: &[Store], nets: &Cells, memories: &mut [Cells])
     }
 }
 
-// A length in which all the steps write, and at least this one.
+/// A length in which all the steps write, and at least this one.
 #[tactic(auto, using(crate::proofs::Room::rooms))]
 fn room(steps: &[Step], least: usize) -> Result<usize, AllocError>
     ensures least { IfOk result (λ n. least ≤ n) }
@@ -76,7 +76,7 @@ fn room(steps: &[Step], least: usize) -> Result<usize, AllocError>
     Ok(most)
 }
 
-// How many words the line declares.
+/// How many words the line declares.
 fn words(line: &Line) -> usize
     ensures { result ≡ words_of (line_of line.now) }
 {
@@ -86,7 +86,7 @@ fn words(line: &Line) -> usize
     }
 }
 
-// A row of zeros for each line.
+/// A row of zeros for each line.
 fn memories(alloc: Global, subject: &Module) -> Result<Vec<Cells>, AllocError>
     ensures { IfOk result (λ v. v.items ≡ map empty_memory (lines_of subject.now)) }
 {
@@ -114,7 +114,7 @@ impl State {
         Ok(State { nets, memories })
     }
 
-    // Input ports take the top's numbers.
+    /// Input ports take the top's numbers.
     fn feed(&mut self, program: &Program, tops: &Cells)
         ensures { self.new ≡ fed_by program.now tops.now self.old }
     {
@@ -132,7 +132,7 @@ impl State {
         );
     }
 
-    // Computes what registers and memories are to take.
+    /// Computes what registers and memories are to take.
     fn ready(&mut self, program: &Program)
         ensures { self.new ≡ readied_by program.now self.old }
     {
@@ -143,7 +143,7 @@ impl State {
         );
     }
 
-    // Memories take it.
+    /// Memories take it.
     fn store(&mut self, program: &Program)
         ensures { self.new ≡ stored_by program.now self.old }
     {
@@ -154,7 +154,7 @@ impl State {
         );
     }
 
-    // Registers take it.
+    /// Registers take it.
     fn shift(&mut self, program: &Program)
         ensures { self.new ≡ moved_by program.now self.old }
     {

@@ -4,7 +4,7 @@ use std::test::Fail;
 use vl_read::read_design;
 use vl_rules::{Sound, rules};
 
-// A counter of two bits that steps when it is fed a 1, and a memory of two words that is read and written at the lower bit.
+/// A counter of two bits that steps when it is fed a 1, and a memory of two words that is read and written at the lower bit.
 const COUNTS: &[u8] =
     b"module r_0 (input wire clk, input wire rst, input wire [0:0] a_0, output wire [1:0] q_0,
   output wire [3:0] w_0);
@@ -36,7 +36,7 @@ fn sound(alloc: Global) -> Result<Sound, AllocError> {
 #[test]
 fn counter_and_memory_run(rt: HostRuntime) -> Result<(), Fail> {
     let mut machine = Machine::new(rt.alloc(), sound(rt.alloc())?)?;
-    // The count, the memory's word with what stands behind it, and what is fed.
+    /// The count, the memory's word with what stands behind it, and what is fed.
     for (count, word, fed) in [
         (2, 0b0001, 1),
         (3, 0b0000, 1),

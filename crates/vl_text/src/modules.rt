@@ -250,6 +250,10 @@ fn top_lines(items: &[TopItem]) -> usize {
 
 /// The text of a design: an item, a port and a join a line, two spaces in. The only error is that memory was
 /// refused.
+///
+/// # Errors
+///
+/// When memory runs out.
 pub fn write_design(alloc: Global, design: &Design) -> Result<Vec<u8>, AllocError>
     requires plain { IsPlain (read_design design.now) }
     ensures spells { IfOk result (λ text. Spells text.items (read_design design.now)) }

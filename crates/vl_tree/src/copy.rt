@@ -205,6 +205,10 @@ fn leaves(alloc: Global, ls: &[Leaf]) -> Result<Leaves, AllocError>
 
 impl Design {
     /// An equal design.
+    ///
+    /// # Errors
+    ///
+    /// When memory runs out.
     pub fn copy(&self, alloc: Global) -> Result<Design, AllocError>
         ensures { IfOk result (λ c. read_design c ≡ read_design self.now) }
     {

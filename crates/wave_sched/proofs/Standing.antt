@@ -26,25 +26,25 @@ start-is w p n t port s stands there is =
     is ∙ ap (λ l. slice_index_or l port s) stands.links ∙ get_or-map-range_with_len (port_slots p n) 0 (ports p) port port s (omega (arith, count, there)) (omega arith)
 
 -- the owner of a port's slot, by the plan's list
-owner-is : (w : Wheel) (p : Plan) (n t start r : ℕ) (xs : List ℕ) → Stands w p n t → xs ≡ w.slots.items → r ≡ slice_index xs ((start + w.turn) % length xs)
+owner-is : (w : Wheel) (p : Plan) (n t start r : ℕ) (xs : List ℕ) → Stands w p n t → xs ≡ w.slots.items → r ≡ slice_index xs ((start + w.phase) % length xs)
     → r ≡ slice_index p.slots ((start + t % length p.slots) % length p.slots)
 owner-is w p n t start r xs stands same is =
-    is ∙ ap (λ l. slice_index l ((start + w.turn) % length l)) (same ∙ stands.owners)
+    is ∙ ap (λ l. slice_index l ((start + w.phase) % length l)) (same ∙ stands.owners)
     ∙ ap (λ z. slice_index p.slots ((start + z) % length p.slots)) stands.cycle
 
-pub some-slots : (w : Wheel) (p : Plan) (n t : ℕ) → Stands w p n t → w.turn < length w.slots.items → 0 < length p.slots
+pub some-slots : (w : Wheel) (p : Plan) (n t : ℕ) → Stands w p n t → w.phase < length w.slots.items → 0 < length p.slots
 some-slots w p n t stands here = let e : length w.slots.items ≡ length p.slots = ap length stands.owners in omega arith
 
-pub leaving-is : (w : Wheel) (p : Plan) (n t m port : ℕ) (s : PortSlots) (r : ℕ) (xs : List ℕ) → Stands w p n t → w.turn < length w.slots.items → port < wheel_ports w
-    → neighbour p n port ≡ Some m → xs ≡ w.slots.items → s ≡ slice_index_or w.starts.items port s → r ≡ slice_index xs ((s.leaving + w.turn) % length xs)
+pub leaving-is : (w : Wheel) (p : Plan) (n t m port : ℕ) (s : PortSlots) (r : ℕ) (xs : List ℕ) → Stands w p n t → w.phase < length w.slots.items → port < wheel_ports w
+    → neighbour p n port ≡ Some m → xs ≡ w.slots.items → s ≡ slice_index_or w.starts.items port s → r ≡ slice_index xs ((s.leaving + w.phase) % length xs)
     → r ≡ owner p n port (pos t)
 leaving-is w p n t m port s r xs stands here there link same at is =
     let start : s.leaving ≡ slot_of p n (pos 0) (way_of port) = ap (λ (x : PortSlots). x.leaving) (start-is w p n t port s stands there at) in
     owner-is w p n t s.leaving r xs stands same is ∙ ap (λ z. slice_index p.slots ((z + t % length p.slots) % length p.slots)) start
     ∙ owner-leaving p n port t (linked-port p n port m link) (some-slots w p n t stands here)
 
-pub arriving-is : (w : Wheel) (p : Plan) (n t m port : ℕ) (s : PortSlots) (r : ℕ) (xs : List ℕ) → Stands w p n t → w.turn < length w.slots.items → port < wheel_ports w
-    → neighbour p n port ≡ Some m → xs ≡ w.slots.items → s ≡ slice_index_or w.starts.items port s → r ≡ slice_index xs ((s.arriving + w.turn) % length xs)
+pub arriving-is : (w : Wheel) (p : Plan) (n t m port : ℕ) (s : PortSlots) (r : ℕ) (xs : List ℕ) → Stands w p n t → w.phase < length w.slots.items → port < wheel_ports w
+    → neighbour p n port ≡ Some m → xs ≡ w.slots.items → s ≡ slice_index_or w.starts.items port s → r ≡ slice_index xs ((s.arriving + w.phase) % length xs)
     → r ≡ owner p m (opposite port) (pos t -ℤ pos p.stages)
 arriving-is w p n t m port s r xs stands here there link same at is =
     let start : s.arriving ≡ slot_of p m (pos 0 -ℤ pos p.stages) (way_of (opposite port)) = ap (λ (x : PortSlots). x.arriving) (start-is w p n t port s stands there at) ∙ ap (arriving_from p port) link in

@@ -52,9 +52,9 @@ slot-below p n z (Minus i) some = modulo-below (length p.slots) (z +ℤ pos (hop
 
 -- ---- the slots before cycle 0, by natural numbers
 
-pub before-plus : (p : Plan) (n ago i turn h w r : ℕ) → turn ≡ length p.slots → 0 < length p.slots → h ≡ hop p → w ≡ wave p n
-    → r ≡ (0 % turn + (turn - (ago + h * w) % turn)) % turn → r ≡ slot_of p n (pos 0 -ℤ pos ago) (Plus i)
-before-plus p n ago i turn h w r turns some hops waves is =
+pub before-plus : (p : Plan) (n ago i period h w r : ℕ) → period ≡ length p.slots → 0 < length p.slots → h ≡ hop p → w ≡ wave p n
+    → r ≡ (0 % period + (period - (ago + h * w) % period)) % period → r ≡ slot_of p n (pos 0 -ℤ pos ago) (Plus i)
+before-plus p n ago i period h w r turns some hops waves is =
     let x : h * w ≡ hop p * wave p n = cc in
     let e : (pos 0 -ℤ pos ago) -ℤ pos (hop p * wave p n) ≡ pos 0 -ℤ pos (ago + hop p * wave p n) = omega (arith, ints) in
     is ∙ ap (λ k. (0 % k + (k - (ago + h * w) % k)) % k) turns
@@ -67,12 +67,12 @@ two-mods k x y =
     let b : y % k + k * (y / k) ≡ y = mod-add-div y k in
     same-mod k (x % k + y % k) (x + y) (x / k + y / k) 0 (omega arith)
 
-pub before-minus : (p : Plan) (n ago i turn h w c r : ℕ) → turn ≡ length p.slots → 0 < length p.slots → h ≡ hop p → w ≡ wave p n
-    → c ≡ (0 % turn + (turn - ago % turn)) % turn → r ≡ (c % turn + h * w % turn) % turn → r ≡ slot_of p n (pos 0 -ℤ pos ago) (Minus i)
-before-minus p n ago i turn h w c r turns some hops waves was is =
+pub before-minus : (p : Plan) (n ago i period h w c r : ℕ) → period ≡ length p.slots → 0 < length p.slots → h ≡ hop p → w ≡ wave p n
+    → c ≡ (0 % period + (period - ago % period)) % period → r ≡ (c % period + h * w % period) % period → r ≡ slot_of p n (pos 0 -ℤ pos ago) (Minus i)
+before-minus p n ago i period h w c r turns some hops waves was is =
     let x : h * w ≡ hop p * wave p n = cc in
     let y : c ≡ modulo (pos 0 -ℤ pos ago) (length p.slots) = was ∙ ap (λ k. (0 % k + (k - ago % k)) % k) turns ∙ sym (modulo-earlier (length p.slots) 0 ago some) in
-    is ∙ two-mods turn c (h * w) ∙ ap (λ k. (c + h * w) % k) turns ∙ ap (λ v. (c + v) % length p.slots) x ∙ ap (λ v. (v + hop p * wave p n) % length p.slots) y
+    is ∙ two-mods period c (h * w) ∙ ap (λ k. (c + h * w) % k) turns ∙ ap (λ v. (c + v) % length p.slots) x ∙ ap (λ v. (v + hop p * wave p n) % length p.slots) y
     ∙ sym (modulo-more (length p.slots) (hop p * wave p n) (pos 0 -ℤ pos ago) some)
 
 -- ---- owners

@@ -16,5 +16,6 @@ port_slots p n port = record {
   arriving = arriving_from p port (neighbour p n port);
 }
 
+-- both slots are below so many
 abbrev pub AreBelow : ℕ → PortSlots → Type 0
 AreBelow k s = (s.leaving < k) × (s.arriving < k)

@@ -14,4 +14,4 @@ pub record Stands (w : Wheel) (p : Plan) (n t : ℕ) : Type 0 where
   pub owners : w.slots.items ≡ p.slots
   pub domains : All (λ d. d < length p.domains) p.slots
   pub links : w.starts.items ≡ map (port_slots p n) (range_with_len 0 (ports p))
-  pub cycle : w.turn ≡ t % length p.slots
+  pub cycle : w.phase ≡ t % length p.slots

@@ -6,6 +6,7 @@
 #![tactic(auto)]
 
 ghost use Rattle.std.specs.Prelude.{◌≡◌, ◌<◌, ◌≤◌, ◌+◌, ◌-◌, ◌*◌, ◌%◌, ◌^◌, length, pos, IsSome};
+ghost use Rattle.noc_model.specs.Limits.{most_slots};
 ghost use Rattle.noc_model.specs.Plan.{tiles, hop};
 ghost use Rattle.noc_model.specs.Place.{owner, slot_of, neighbour, wave};
 
@@ -33,33 +34,33 @@ fn slot_at(plan: &Plan, tile: u32, way: Way, cycle: u32) -> u32
     ensures below { result < length plan.now.slots }
 {
     plan.known();
-    let turn = plan.slots();
-    let shift = plan.hop() * wave(plan, tile) % turn;
+    let period = plan.slots();
+    let shift = plan.hop() * wave(plan, tile) % period;
     match way {
         Way::Local => 0,
-        Way::Plus(_) => earlier_slot(cycle, shift, turn),
-        Way::Minus(_) => later_slot(cycle, shift, turn),
+        Way::Plus(_) => earlier_slot(cycle, shift, period),
+        Way::Minus(_) => later_slot(cycle, shift, period),
     }
 }
 
 /// The slot `shift` cycles before a cycle.
-fn earlier_slot(cycle: u32, shift: u32, turn: u32) -> u32
-    requires small { turn ≤ 64 }
-    requires within { shift < turn }
-    ensures { result ≡ (cycle % turn + (turn - shift)) % turn }
+fn earlier_slot(cycle: u32, shift: u32, period: u32) -> u32
+    requires small { period ≤ most_slots }
+    requires within { shift < period }
+    ensures { result ≡ (cycle % period + (period - shift)) % period }
 {
-    let before = cycle % turn + (turn - shift);
-    before % turn
+    let before = cycle % period + (period - shift);
+    before % period
 }
 
 /// The slot `shift` cycles after a cycle.
-fn later_slot(cycle: u32, shift: u32, turn: u32) -> u32
-    requires small { turn ≤ 64 }
-    requires within { shift < turn }
-    ensures { result ≡ (cycle % turn + shift) % turn }
+fn later_slot(cycle: u32, shift: u32, period: u32) -> u32
+    requires small { period ≤ most_slots }
+    requires within { shift < period }
+    ensures { result ≡ (cycle % period + shift) % period }
 {
-    let after = cycle % turn + shift;
-    after % turn
+    let after = cycle % period + shift;
+    after % period
 }
 
 /// The sum of a tile's coordinates.

@@ -2,6 +2,7 @@
 
 ghost use Rattle.std.specs.Prelude.{◌≡◌, ◌<◌, ◌≤◌, ◌+◌, ◌*◌, ◌%◌, length, pos, ◌-ℤ◌, if◌then◌else◌, map, IfOk};
 ghost use Rattle.std.specs.List.{range_with_len};
+ghost use Rattle.noc_model.specs.Limits.{most_stages};
 ghost use Rattle.noc_model.specs.Plan.{tiles, ports, hop};
 ghost use Rattle.noc_model.specs.Place.{neighbour, slot_of, wave};
 ghost use Rattle.wave_sched.specs.Starts.{arriving_from, port_slots};
@@ -21,16 +22,20 @@ pub(crate) struct PortSlots {
 /// The slot, `ago` cycles before cycle 0, of the link that leaves a tile this way.
 fn slot_before(plan: &Plan, tile: u32, way: Way, ago: u32) -> u32
     requires tile { tile < tiles plan.now }
-    requires few { ago ≤ 4 }
+    requires few { ago ≤ most_stages }
     ensures { result ≡ slot_of plan.now tile (pos 0 -ℤ pos ago) way }
 {
     plan.known();
-    let turn = plan.slots();
+    let period = plan.slots();
     let shift = plan.hop() * wave(plan, tile);
     match way {
         Way::Local => 0,
-        Way::Plus(_) => earlier_slot(0, (ago + shift) % turn, turn),
-        Way::Minus(_) => later_slot(earlier_slot(0, ago % turn, turn), shift % turn, turn),
+        Way::Plus(_) => earlier_slot(0, (ago + shift) % period, period),
+        Way::Minus(_) => later_slot(
+            earlier_slot(0, ago % period, period),
+            shift % period,
+            period,
+        ),
     }
 }
 
@@ -62,7 +67,7 @@ pub(crate) fn starts_of(alloc: Global, plan: &Plan, tile: u32) -> Result<Vec<Por
     Ok(starts)
 }
 
-/// The owners of the slots, in turn.
+/// The owners of the slots, in order.
 pub(crate) fn owners_of(alloc: Global, plan: &Plan) -> Result<Vec<u32>, AllocError>
     ensures { IfOk result (λ v. v.items ≡ plan.now.slots) }
 {

@@ -75,6 +75,10 @@ fn range(tile: u32, first: u32, last: u32) -> Range
 }
 
 /// One tile, which hosts domain `a` and answers the addresses 0x10 to 0x1f.
+///
+/// # Errors
+///
+/// When memory runs out.
 pub fn one_tile(alloc: Global) -> Result<Plan, AllocError>
     ensures { IfOk result (λ plan. plan ≡ examples.one_tile) }
 {
@@ -93,6 +97,10 @@ pub fn one_tile(alloc: Global) -> Result<Plan, AllocError>
 
 /// Two tiles in a row, which both host the domains `a` and `b`. Tile 0 answers the addresses 0 to 0xff, and tile 1
 /// those from 0x100 to 0x1ff.
+///
+/// # Errors
+///
+/// When memory runs out.
 pub fn two_tiles(alloc: Global) -> Result<Plan, AllocError>
     ensures { IfOk result (λ plan. plan ≡ examples.two_tiles) }
 {
@@ -110,6 +118,10 @@ pub fn two_tiles(alloc: Global) -> Result<Plan, AllocError>
 }
 
 /// Three tiles in a row, which all host domain `a`, with buffers of four flits.
+///
+/// # Errors
+///
+/// When memory runs out.
 pub fn three_in_a_row(alloc: Global) -> Result<Plan, AllocError>
     ensures { IfOk result (λ plan. plan ≡ examples.three_in_a_row) }
 {
@@ -127,6 +139,10 @@ pub fn three_in_a_row(alloc: Global) -> Result<Plan, AllocError>
 }
 
 /// Three tiles in a ring, which all host domain `a`.
+///
+/// # Errors
+///
+/// When memory runs out.
 pub fn ring_of_three(alloc: Global) -> Result<Plan, AllocError>
     ensures { IfOk result (λ plan. plan ≡ examples.ring_of_three) }
 {
@@ -144,6 +160,10 @@ pub fn ring_of_three(alloc: Global) -> Result<Plan, AllocError>
 }
 
 /// Four tiles in a ring, of which tiles 0 and 2 host domain `a`.
+///
+/// # Errors
+///
+/// When memory runs out.
 pub fn ring_of_four(alloc: Global) -> Result<Plan, AllocError>
     ensures { IfOk result (λ plan. plan ≡ examples.ring_of_four) }
 {
@@ -161,6 +181,10 @@ pub fn ring_of_four(alloc: Global) -> Result<Plan, AllocError>
 }
 
 /// Five tiles in a row, with links of four stages. Both ends host the domains `a`, `b` and `c`.
+///
+/// # Errors
+///
+/// When memory runs out.
 pub fn five_in_a_row(alloc: Global) -> Result<Plan, AllocError>
     ensures { IfOk result (λ plan. plan ≡ examples.five_in_a_row) }
 {
@@ -185,6 +209,10 @@ pub fn five_in_a_row(alloc: Global) -> Result<Plan, AllocError>
 }
 
 /// The two tiles, of which tile 0 hosts `a` alone and tile 1 `b` alone.
+///
+/// # Errors
+///
+/// When memory runs out.
 pub fn split_domains(alloc: Global) -> Result<Plan, AllocError>
     ensures { IfOk result (λ plan. plan ≡ examples.split_domains) }
 {
@@ -202,6 +230,10 @@ pub fn split_domains(alloc: Global) -> Result<Plan, AllocError>
 }
 
 /// The two tiles, where `a` owns two of three slots.
+///
+/// # Errors
+///
+/// When memory runs out.
 pub fn weighted_slots(alloc: Global) -> Result<Plan, AllocError>
     ensures { IfOk result (λ plan. plan ≡ examples.weighted_slots) }
 {
@@ -219,6 +251,10 @@ pub fn weighted_slots(alloc: Global) -> Result<Plan, AllocError>
 }
 
 /// Two tiles along each of three dimensions. Two opposite corners host domain `a`.
+///
+/// # Errors
+///
+/// When memory runs out.
 pub fn cube(alloc: Global) -> Result<Plan, AllocError>
     ensures { IfOk result (λ plan. plan ≡ examples.cube) }
 {

@@ -7,7 +7,7 @@ use Rattle.noc_model.specs.Sound.{IsSound}
 use Rattle.noc_model.specs.Run.{start}
 use Rattle.noc_model.specs.Driver.{Driver, driven_events, driven_state, driver_states}
 use Rattle.cycle_sim.specs.Net.{Kept, Shows}
-use Rattle.cycle_sim.specs.Run.{events_seen}
+use Rattle.tile_drive.specs.SeenEvents.{events_seen}
 use Rattle.cycle_sim.proofs.Turns.{HasStepped, turn, turn-events}
 use Rattle.cycle_sim.proofs.cycles.run.Goals as goal
 

@@ -12,4 +12,4 @@ loop-d-preserved c =
     let a = to_z-of_z fits ∙ c.from-channels.ensures in
     map-next domain_draft c.args.plan.now.domains c.loop-d.domains _ c.loop-d.d nobody _ (omega arith) c.loop-d.invariant c.in_ok-push.ensures.ok
     ((λ t. record { name = c.in_ok-name.name; channels = a t })
-    ∙ domain-is c.args.plan.now.domains c.loop-d.d nobody c.in_ok-name.name c.channels.result (omega arith) (c.in_ok-name.ensures ∙ c.name.ensures) c.channels.ensures)
+    ∙ domain-is c.args.plan.now.domains c.loop-d.d nobody c.in_ok-name.name c.channels.result (omega arith) (c.in_ok-name.ensures ∙ c.name.ensures) c.channels.ensures.value)

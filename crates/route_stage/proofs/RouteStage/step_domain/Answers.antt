@@ -8,8 +8,8 @@ use Rattle.route_stage.proofs.RouteStage.step_domain.Goals as goal
 pub loop-i-preserved : goal.loop-i-preserved
 loop-i-preserved c =
     let p = c.args.plan.now in
-    let count : c.port_count.result * c.link_channels.result ≡ input_count p c.args.d =
-    ap (λ k. k * c.link_channels.result) c.port_count.ensures.value ∙ ap (λ k. ports p * k) c.link_channels.ensures.value in
+    let count : c.ports.result * c.link_channels.result ≡ input_count p c.args.d =
+    ap (λ k. k * c.link_channels.result) c.ports.ensures.value ∙ ap (λ k. ports p * k) c.link_channels.ensures.value in
     let inside : c.loop-i.i < input_count p c.args.d = omega (arith, c.loop-i-test.true, count) in (
       c.step_one.ensures.inputs,
       λ n e k made. ap (λ v. stage_at v e k) (c.step_one.ensures.routed n made)

@@ -1,5 +1,5 @@
 use Rattle.std.proofs.Common.{◌/◌, ◌%◌, ◌∙◌}
-use Rattle.noc_model.specs.Plan.{lanes}
+use Rattle.noc_model.specs.Plan.{link_channels}
 use Rattle.noc_model.specs.Tile.{Tile}
 use Rattle.solo_run.specs.Solo.{tile_of, in_of}
 use Rattle.solo_run.specs.Parts.{stepped, output_in}
@@ -11,6 +11,6 @@ loop-k-preserved c =
     let p = c.args.plan.now in
     let d = c.args.here.domain in
     let s : Tile = stepped p c.args.here (tile_of p d c.args.tile.now) (in_of p d c.args.fed.now) in
-    table-more (λ k. output_in s (k / lanes p d) (k % lanes p d)) c.loop-k.outputs.items c.push.new.self.items c.loop-k.k c.next_output.result c.loop-k.invariant c.in_ok-push.ensures.items
+    table-more (λ k. output_in s (k / link_channels p d) (k % link_channels p d)) c.loop-k.outputs.items c.push.new.self.items c.loop-k.k c.next_output.result c.loop-k.invariant c.in_ok-push.ensures.items
     (c.next_output.ensures
-    ∙ spot-is (output_in s) c.loop-k.k c.lanes-width.result (lanes p d) c.spot_of-at.result.port c.spot_of-at.result.entry c.lanes-width.ensures.value c.spot_of-at.ensures.port c.spot_of-at.ensures.entry)
+    ∙ spot-is (output_in s) c.loop-k.k c.link_channels-width.result (link_channels p d) c.spot_of-at.result.port c.spot_of-at.result.entry c.link_channels-width.ensures.value c.spot_of-at.ensures.port c.spot_of-at.ensures.entry)

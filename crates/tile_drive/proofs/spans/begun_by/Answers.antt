@@ -1,7 +1,7 @@
 use Rattle.std.proofs.Common.{rules}
 use Rattle.std.specs.Prelude.{nat_le}
 use Rattle.std.proofs.lemmas.List.Sorted.{IsPartitionPoint-from_clause, IsPartitionedBy-leb}
-use Rattle.tile_drive.specs.declared.lanes.Span.{Span}
+use Rattle.tile_drive.specs.declared.scripts.Span.{Span}
 use Rattle.tile_drive.proofs.spans.begun_by.Goals as goal
 
 pub returns-clause-begun : goal.returns-clause-begun

@@ -1,5 +1,5 @@
 use Rattle.std.proofs.Common.{◌≡◌, ◌++◌, length}
-use Rattle.tile_drive.specs.Lanes.{ends_from}
+use Rattle.tile_drive.specs.Scripts.{ends_from}
 use Rattle.tile_drive.proofs.spans.ends_of.Given as goal
 
 abbrev pub invariant-loop-rest : goal.invariant-loop-rest

@@ -1,6 +1,6 @@
 use Rattle.std.proofs.Common.{rules}
 use Rattle.std.proofs.lemmas.List.Sorted.{IsNonDecreasingBy-from_sort_by_key}
-use Rattle.tile_drive.specs.declared.lanes.Span.{Span}
+use Rattle.tile_drive.specs.declared.scripts.Span.{Span}
 use Rattle.tile_drive.proofs.spans.sort_spans.Goals as goal
 
 pub returns-clause-sorted : goal.returns-clause-sorted

@@ -9,14 +9,14 @@ invariant_of-result c =
     let p = c.args.plan.now in
     let P : Allocator → Type 0 = IsAllocator in
     subst P
-    (sym (start-is p c.known.ensures c.args.tile _ _ _ _ _ c.deref.result.now c.deref-2.result.now c.in_ok-channels.ensures c.in_ok-lanes.ensures
+    (sym (start-is p c.known.ensures c.args.tile _ _ _ _ _ c.deref.result.now c.deref-2.result.now c.in_ok-channels.ensures c.in_ok-link_channels.ensures
     (c.deref.ensures.value ∙ c.in_ok-inputs.ensures.value) c.in_ok-holders.ensures (c.deref-2.ensures.value ∙ c.in_ok-outputs.ensures.value) c.in_ok-pointers.ensures
-    (c.in_ok-best.ensures ∙ ap (λ k. replicate k None) c.port_count.ensures.value)))
+    (c.in_ok-best.ensures ∙ ap (λ k. replicate k None) c.ports.ensures.value)))
     (is-start p c.known.ensures c.args.tile)
 
 pub returns : goal.returns
 returns c =
     let p = c.args.plan.now in
-    start-is p c.known.ensures c.args.tile _ _ _ _ _ c.deref.result.now c.deref-2.result.now c.in_ok-channels.ensures c.in_ok-lanes.ensures
+    start-is p c.known.ensures c.args.tile _ _ _ _ _ c.deref.result.now c.deref-2.result.now c.in_ok-channels.ensures c.in_ok-link_channels.ensures
     (c.deref.ensures.value ∙ c.in_ok-inputs.ensures.value) c.in_ok-holders.ensures (c.deref-2.ensures.value ∙ c.in_ok-outputs.ensures.value) c.in_ok-pointers.ensures
-    (c.in_ok-best.ensures ∙ ap (λ k. replicate k None) c.port_count.ensures.value)
+    (c.in_ok-best.ensures ∙ ap (λ k. replicate k None) c.ports.ensures.value)

@@ -1,7 +1,7 @@
 use Rattle.std.proofs.Common.{◌≡◌, ◌<◌, ◌≤◌, ◌*◌, sym, ap, ◌∙◌, subst, arith}
 use Rattle.noc_model.specs.declared.Stage.{Stage}
 use Rattle.noc_model.specs.declared.Stage.TheVariants.{Idle}
-use Rattle.noc_model.specs.Plan.{ports, lanes, channels, classes}
+use Rattle.noc_model.specs.Plan.{ports, link_channels, channels, classes}
 use Rattle.noc_model.specs.Inputs.{input_count}
 use Rattle.vc_partition.specs.Lanes.{lane}
 use Rattle.vc_alloc.specs.Shown.{stage_at, GoesBelow}
@@ -16,8 +16,8 @@ loop-i-preserved c =
     let p = c.args.plan.now in
     let d = c.args.d in
     let i = c.loop-i.i in
-    let count : c.port_count.result * c.link_channels.result ≡ input_count p d =
-    ap (λ k. k * c.link_channels.result) c.port_count.ensures.value ∙ ap (λ k. ports p * k) c.link_channels.ensures.value in
+    let count : c.ports.result * c.link_channels.result ≡ input_count p d =
+    ap (λ k. k * c.link_channels.result) c.ports.ensures.value ∙ ap (λ k. ports p * k) c.link_channels.ensures.value in
     let below : i < input_count p d = omega (arith, c.loop-i-test.true, count) in
     let some : 1 ≤ channels p d = some-class (classes p) (channels p d) c.link_channels.result c.link_channels.ensures.value c.link_channels.ensures.some in
     let stage : c.at.result.now ≡ stage_at c.args.stages.now d i = sym (get-some (lane c.args.stages.now d) i c.at.result.now Idle c.at.ensures) in
@@ -28,6 +28,6 @@ pub returns-clause-best : goal.returns-clause-best
 returns-clause-best c =
     let p = c.args.plan.now in
     let d = c.args.d in
-    let count : c.port_count.result * c.link_channels.result ≡ input_count p d =
-    ap (λ k. k * c.link_channels.result) c.port_count.ensures.value ∙ ap (λ k. ports p * k) c.link_channels.ensures.value in
+    let count : c.ports.result * c.link_channels.result ≡ input_count p d =
+    ap (λ k. k * c.link_channels.result) c.ports.ensures.value ∙ ap (λ k. ports p * k) c.link_channels.ensures.value in
     λ s o shows there. knows-all p d c.loop-i.i c.args.self.now c.loop-i.self c.args.stages.now (omega (arith, c.loop-i-test.false, count)) c.loop-i.invariant s o shows there

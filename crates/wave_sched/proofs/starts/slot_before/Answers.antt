@@ -6,10 +6,10 @@ pub returns-in-Plus : goal.returns-in-Plus
 returns-in-Plus c =
     let some : 0 < length c.args.plan.now.slots = omega (arith, c.known.ensures.slot_count.0) in
     rw c.in-Plus.is
-    (before-plus c.args.plan.now c.args.tile c.args.ago 0 c.slots-turn.result c.hop.result c.wave.result c.earlier_slot.result c.slots-turn.ensures some c.hop.ensures c.wave.ensures.wave c.earlier_slot.ensures)
+    (before-plus c.args.plan.now c.args.tile c.args.ago 0 c.slots-period.result c.hop.result c.wave.result c.earlier_slot.result c.slots-period.ensures some c.hop.ensures c.wave.ensures.wave c.earlier_slot.ensures)
 
 pub returns-in-Minus : goal.returns-in-Minus
 returns-in-Minus c =
     let some : 0 < length c.args.plan.now.slots = omega (arith, c.known.ensures.slot_count.0) in
     rw c.in-Minus.is
-    (before-minus c.args.plan.now c.args.tile c.args.ago 0 c.slots-turn.result c.hop.result c.wave.result c.earlier_slot-in-Minus.result c.later_slot.result c.slots-turn.ensures some c.hop.ensures c.wave.ensures.wave c.earlier_slot-in-Minus.ensures c.later_slot.ensures)
+    (before-minus c.args.plan.now c.args.tile c.args.ago 0 c.slots-period.result c.hop.result c.wave.result c.earlier_slot-in-Minus.result c.later_slot.result c.slots-period.ensures some c.hop.ensures c.wave.ensures.wave c.earlier_slot-in-Minus.ensures c.later_slot.ensures)

@@ -14,9 +14,9 @@ pub overflow_mul-result-3 : goal.overflow_mul-result-3
 overflow_mul-result-3 c =
     let tiles : c.product_of.result ≤ 256 = rw (c.product_of.ensures, c.as_slice-sides.ensures.value) c.requires.tiles in
     let ports : 1 + 2 * length c.as_slice-sides.result.now ≤ 7 = rw c.as_slice-sides.ensures.value (let d = c.requires.dims in omega arith) in
-    let few = few_places c.product_of.result (1 + 2 * length c.as_slice-sides.result.now) c.lanes_of-lanes.result c.args.self.now.buffer tiles ports c.lanes_of-lanes.ensures.few c.requires.buffer in
+    let few = few_places c.product_of.result (1 + 2 * length c.as_slice-sides.result.now) c.all_link_channels-channels.result c.args.self.now.buffer tiles ports c.all_link_channels-channels.ensures.few c.requires.buffer in
     omega (arith, few)
 
 pub returns : goal.returns
 returns c =
-    rw (c.product_of.ensures, c.as_slice-sides.ensures.value, c.lanes_of-lanes.ensures.value, c.classes_of.ensures.value, c.deref.ensures.value) refl
+    rw (c.product_of.ensures, c.as_slice-sides.ensures.value, c.all_link_channels-channels.ensures.value, c.classes_of.ensures.value, c.deref.ensures.value) refl

@@ -12,5 +12,5 @@ returns c = λ p n t stands.
       domains = stands.domains;
       links = stands.links;
       cycle = cycle-next (length p.slots) t c.next_slot-self.result (some-slots c.args.self.now p n t stands c.args.self.now.here)
-          (c.next_slot-self.ensures.value ∙ ap (λ k. next_in k c.args.self.now.turn) count ∙ ap (next_in (length p.slots)) stands.cycle);
+          (c.next_slot-self.ensures.value ∙ ap (λ k. next_in k c.args.self.now.phase) count ∙ ap (next_in (length p.slots)) stands.cycle);
     }

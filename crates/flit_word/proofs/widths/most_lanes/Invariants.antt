@@ -1,7 +1,0 @@
-use Rattle.std.proofs.Common.{◌≡◌, ◌≤◌, take}
-use Rattle.noc_model.specs.Plan.{classes}
-use Rattle.flit_word.specs.Words.{most_channels}
-use Rattle.flit_word.proofs.widths.most_lanes.Given as goal
-
-abbrev pub invariant-loop-d : goal.invariant-loop-d
-invariant-loop-d l = (l.most ≡ most_channels (classes l.plan) (take l.d l.plan.domains)) × (l.most ≤ 8)
