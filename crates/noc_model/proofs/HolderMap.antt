@@ -13,7 +13,7 @@ use Rattle.noc_model.proofs.Least.{least-member}
 use Rattle.noc_model.proofs.Inputs.{input-within, place-below, port-below, place-input, port-place, channel-place}
 
 -- where there is a member there is a least one
-least-some : (n : ℕ) (set : ℕ → Bool) (k : ℕ) → k < n → set k ≡ true → (j : ℕ) × (least n set ≡ Some j)
+pub least-some : (n : ℕ) (set : ℕ → Bool) (k : ℕ) → k < n → set k ≡ true → (j : ℕ) × (least n set ≡ Some j)
 least-some zero set k below member = absurd (omega arith)
 least-some (suc n) set k below member = go (least n set) refl (λ less. least-some n set k less member)
   where

@@ -85,12 +85,12 @@ waits_for-is (Routed to) o e = let same : to ≡ o = grind (arith, nat_tests, e)
 waits_for-is (Active to w) o e = absurd (cc e)
 
 -- a channel that waited for an output, at a place that is there
-record Waits (p : Plan) (d n : ℕ) (s : Tile) (o k : ℕ) : Type 0 where
-  inside : k / link_channels p d < ports p
-  below : k % link_channels p d < in_channels p d (k / link_channels p d)
-  was : s.stage (k / link_channels p d) (k % link_channels p d) ≡ Routed o
+pub record Waits (p : Plan) (d n : ℕ) (s : Tile) (o k : ℕ) : Type 0 where
+  pub inside : k / link_channels p d < ports p
+  pub below : k % link_channels p d < in_channels p d (k / link_channels p d)
+  pub was : s.stage (k / link_channels p d) (k % link_channels p d) ≡ Routed o
 
-winner-waits : (p : Plan) (d n : ℕ) (s : Tile) (o k : ℕ) → winner p d n s o ≡ Some k → Waits p d n s o k
+pub winner-waits : (p : Plan) (d n : ℕ) (s : Tile) (o k : ℕ) → winner p d n s o ≡ Some k → Waits p d n s o k
 unfolding winner
 winner-waits p d n s o k e =
     let member = pick-member (ports p * link_channels p d) (is_candidate p d n s o) (s.allocation o) k e in

@@ -50,3 +50,15 @@ pub mod Delivery
 pub mod WholePackets
 pub mod Told
 pub mod Room
+pub mod LoneTile
+pub mod LoneState
+pub mod LoneMoves
+pub mod LoneLinks
+pub mod LoneRoute
+pub mod LoneSlot
+pub mod LoneCount
+pub mod LoneEvents
+pub mod LoneWord
+pub mod LoneDriven
+pub mod LoneRows
+pub mod LoneAfter

@@ -23,5 +23,6 @@ pub mod Reached
 pub mod Flits
 pub mod Packets
 pub mod Delivery
+pub mod Lone
 pub mod Limits
 pub mod Examples

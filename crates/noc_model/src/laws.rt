@@ -1,20 +1,24 @@
 //! What holds of every plan and every run, over the definitions alone. Each law is the contract of a function that
 //! does nothing.
 
-ghost use Rattle.std.specs.Prelude.{◌≡◌, ◌<◌, ◌+◌, ◌+ℤ◌, ℕ, ℤ, pos, Bool, List, length, Some, false, All, count_by};
+ghost use Rattle.std.specs.Prelude.{◌≡◌, ◌<◌, ◌+◌, ◌+ℤ◌, ℕ, ℤ, pos, Bool, List, length, take, Some, false, All};
+ghost use Rattle.std.specs.Prelude.{count_by};
 ghost use Rattle.noc_model.specs.declared.Flit.{Flit};
+ghost use Rattle.noc_model.specs.declared.Offer.{Offer};
 ghost use Rattle.noc_model.specs.Plan.{Plan, tiles, hop};
 ghost use Rattle.noc_model.specs.Sound.{IsSound};
 ghost use Rattle.noc_model.specs.OwnPart.{HaveOwnPart};
 ghost use Rattle.noc_model.specs.Place.{neighbour, is_wrap, owner};
 ghost use Rattle.noc_model.specs.Run.{Input, start, run};
 ghost use Rattle.noc_model.specs.Events.{events_from};
+ghost use Rattle.noc_model.specs.Driver.{Driver, driven_events, driven_state, driven_inputs};
 ghost use Rattle.noc_model.specs.Outs.{outs};
 ghost use Rattle.noc_model.specs.Walk.{Stop, stop_at, next_stop, out_of, out_rank};
 ghost use Rattle.noc_model.specs.Laws.{channel_sum};
 ghost use Rattle.noc_model.specs.SoundState.{IsSoundState};
 ghost use Rattle.noc_model.specs.Flits.{inside, entered, delivered, delivered_to};
 ghost use Rattle.noc_model.specs.Packets.{AreWholePackets, sent_on, entered_by};
+ghost use Rattle.noc_model.specs.Lone.{IsLoneWord, IsRoute, HasRoute, least_latency, most_latency, IsGot};
 
 /// Credit conservation. On each channel of each link the credits, the flits on the link, those in the list at its
 /// end, and 1 for a credit that is on its way back add up to the buffer, in every state of every run. No list is
@@ -64,6 +68,27 @@ pub fn whole_packets()
     ensures delivered { (p : Plan) (d : ℕ) (inputs : List Input) (n : ℕ) → IsSound p → d < length p.domains
         → n < tiles p
         → AreWholePackets (delivered_to p d 0 (start p) inputs n) }
+{}
+
+/// The latency bound of a lone word. A domain's network is empty in cycle `t`, and tile `n` takes a packet of one word
+/// then, for tile `dest`, which hears; no other word of the domain is taken until the word is got there. Its latency is
+/// at least 4 cycles and a hop for each link of its route. On top of that it waits at most once for each dimension in
+/// which the tiles differ, and once for each wrap link of the route, each time for the other slots. It is so in
+/// the runs that a driver makes too, and each tile has a route to each.
+pub fn lone_word()
+    ensures route { (p : Plan) (n dest : ℕ) → IsSound p → n < tiles p → dest < tiles p → HasRoute p n dest }
+    ensures got { (p : Plan) (d n dest t : ℕ) (inputs : List Input) (word : Offer) (way : List ℕ) → IsSound p
+        → d < length p.domains → IsRoute p dest n way
+        → IsLoneWord p d n dest t (t + most_latency p dest n way) word (run p d (take t inputs)) inputs
+        (events_from p d 0 (start p) inputs)
+        → IsGot d dest word.payload (t + least_latency p way) (t + most_latency p dest n way)
+        (events_from p d 0 (start p) inputs) }
+    ensures driven { (p : Plan) (d n dest t k : ℕ) (v : Driver) (states : ℕ → List ℕ) (word : Offer) (way : List ℕ)
+        → IsSound p → d < length p.domains → IsRoute p dest n way
+        → IsLoneWord p d n dest t (t + most_latency p dest n way) word (driven_state p d v t 0 (start p) states)
+        (driven_inputs p d v k 0 (start p) states) (driven_events p d v k 0 (start p) states)
+        → IsGot d dest word.payload (t + least_latency p way) (t + most_latency p dest n way)
+        (driven_events p d v k 0 (start p) states) }
 {}
 
 /// Isolation of the plan. A domain's network reads nothing of a plan but the domain's own part: in two plans that
