@@ -153,7 +153,7 @@ module _ (d : Design) (sound : IsSound d) where
       shown b.top b.places a parts (all-begun b.top d.leaves a d.top.items each parts b.fresh) tops ports b.room b.named
 
   -- the ports of the top, each the first of its name
-  ports-first : First all d.top.ports × Distinct d.top.ports
+  pub ports-first : First all d.top.ports × Distinct d.top.ports
   ports-first = are-first d.leaves all (heading (codes "noc") ∷ []) d.top.ports (map joint d.top.items) refl (top-sound d sound.rules).once.1
 
   is-input : (n : Name) → is_kind is_input all n ≡ true → has_input d.top.ports n ≡ true
@@ -182,6 +182,10 @@ module _ (d : Design) (sound : IsSound d) where
 
     pub small-nets : (t : Name → ℕ) (parts : List Part) → AllStand t d.leaves a d.top.items parts → AreSmallNets d s
     small-nets t parts h = record { top = top-small; inside = all-small t d.leaves a d.top.items parts h }
+
+    -- the input ports have their numbers
+    pub inputs-show : (t : Name → ℕ) (parts : List Part) → AllStand t d.leaves a d.top.items parts → (n : Name) → is_kind is_input all n ≡ true → (settled d s).top n ≡ inputs n
+    inputs-show t parts h n k = (one-valuation d sound s (small-nets t parts h)).1.inputs n k ∙ ap (λ c. if c then inputs n else 0) k
 
     -- a join's net is a net of the top
     net-of-width : (l : Leaf) (j : Join) → GoodJoin all l j → is_kind is_net all j.net ≡ true

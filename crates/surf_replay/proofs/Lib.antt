@@ -1,0 +1,4 @@
+pub mod Feeding
+pub mod Numbered
+pub mod Fed
+pub mod Cycles
