@@ -9,14 +9,27 @@ use Rattle.std.proofs.lemmas.List.FromFn.{get_or-map-range_with_len, length-map-
 use Rattle.noc_model.specs.declared.Grant.{Grant}
 use Rattle.noc_model.specs.Plan.{Plan, ports}
 use Rattle.noc_model.specs.Sound.{IsSound}
+use Rattle.noc_model.specs.Tile.{start_tile}
 use Rattle.vc_partition.specs.Lanes.{lane}
 use Rattle.vc_partition.specs.Picks.{comes_first}
 use Rattle.slot_switch.specs.Switch.{Switch, ask_at, better_ask, with_ask, IsSwitch, start_of}
+use Rattle.slot_switch.specs.Shown.{IsFor, Keeps}
 
 -- lanes by number
-map-lanes : {T : Type 0} (f : ℕ → ℕ) (x : T) (xs : List ℕ) → map (λ c. replicate c x) (map f xs) ≡ map (λ d. replicate (f d) x) xs
+pub map-lanes : {T : Type 0} (f : ℕ → ℕ) (x : T) (xs : List ℕ) → map (λ c. replicate c x) (map f xs) ≡ map (λ d. replicate (f d) x) xs
 map-lanes f x [] = refl
 map-lanes f x (y ∷ ys) = ap (λ zs. replicate (f y) x ∷ zs) (map-lanes f x ys)
+
+-- where each place of the lanes has the same value, each is read so, also where there is none
+all-filled : {T : Type 0} (f : ℕ → ℕ) (x : T) (xs : List ℕ) (d k : ℕ) → get_or (lane (map (λ d. replicate (f d) x) xs) d) k x ≡ x
+all-filled f x [] d k = refl
+all-filled f x (y ∷ ys) zero k = filled (f y) k
+  where
+    filled : (n j : ℕ) → get_or (replicate n x) j x ≡ x
+    filled zero j = refl
+    filled (suc n) zero = refl
+    filled (suc n) (suc j) = filled n j
+all-filled f x (y ∷ ys) (suc d) k = all-filled f x ys d k
 
 module _ (p : Plan) where
   abbrev count : ℕ
@@ -31,16 +44,6 @@ module _ (p : Plan) where
   abbrev none : Option Grant
   none = None
 
-  all-none : (xs : List ℕ) (d port : ℕ) → get_or (lane (map (λ d. replicate (ports p) none) xs) d) port None ≡ None
-  all-none [] d port = refl
-  all-none (x ∷ xs) zero port = none-there (ports p) port
-    where
-      none-there : (n k : ℕ) → get_or (replicate n none) k None ≡ None
-      none-there zero k = refl
-      none-there (suc n) zero = refl
-      none-there (suc n) (suc k) = none-there n k
-  all-none (x ∷ xs) (suc d) port = all-none xs d port
-
   pub is-start : IsSound p → IsSwitch (start_of p)
   is-start sound = record {
     few_ports = let a = sound.dims in omega (arith, a);
@@ -49,7 +52,16 @@ module _ (p : Plan) where
     ask_places = λ d there. places none d (let a = lanes-many none in omega (arith, a, there));
     turn_places = λ d there. places 0 d (let a = lanes-many none in omega (arith, a, there));
     switch_places = λ d there. places 0 d (let a = lanes-many none in omega (arith, a, there));
-    channels = λ d port g e. absurd (let bad = sym (all-none (range_with_len 0 count) d port) ∙ e in cc bad);
+    channels = λ d port g e. absurd (let bad = sym (all-filled (λ d. ports p) none (range_with_len 0 count) d port) ∙ e in cc bad);
+  }
+
+  pub start-for : IsFor (start_of p) p
+  start-for = record { domains = lanes-many none; port_count = refl }
+
+  pub start-keeps : (d : ℕ) → Keeps (start_of p) p d (start_tile p)
+  start-keeps d = record {
+    turn = λ k there. all-filled (λ d. ports p) 0 (range_with_len 0 count) d k;
+    switch = λ o there. all-filled (λ d. ports p) 0 (range_with_len 0 count) d o;
   }
 
   -- a switch that is made of the lists of a plan is the one at the start

@@ -1,2 +1,9 @@
 pub mod Asks
 pub mod Defined
+pub mod Choice
+pub mod Outputs
+pub mod Asking
+pub mod Granting
+pub mod Switching
+pub mod Stepping
+pub mod Filled

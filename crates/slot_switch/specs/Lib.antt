@@ -1,2 +1,4 @@
 pub mod Switch
 pub mod Asked
+pub mod Grants
+pub mod Shown

@@ -3,18 +3,22 @@
 //! [`SlotSwitch`] is a separable, input-first allocator (Dally and Towles, section 19.3) for each domain. A channel
 //! that may send is made known by `ask`; each input port keeps the best of its channels, from its pointer on, in
 //! whatever order they come. Then each output picks one of the ports that ask for it, by `commit`, and only for a grant
-//! the two pointers move. Which channels may send, so who owns the link and whether there is a credit, is left to the
-//! router.
+//! the two pointers move. `step` does both for all channels of a tile: a link takes flits of the domain alone that owns
+//! its slot, and only with a credit, and each domain's grants are those of the definition. Moving the flits is left to
+//! the router.
 #![tactic(auto)]
 
-ghost use Rattle.std.specs.Prelude.{◌≡◌, ◌<◌, ◌≤◌, ◌+◌, true, length, map, replicate, Some, None, IfSome, IfOk};
+ghost use Rattle.std.specs.Prelude.{◌≡◌, ◌<◌, ◌≤◌, ◌+◌, ℕ, true, length, map, replicate, Some, None, IfSome, IfOk};
 ghost use Rattle.noc_model.specs.Plan.{tiles};
 ghost use Rattle.noc_model.specs.Pick.{least};
 ghost use Rattle.noc_model.specs.Step.{asks_for};
+ghost use Rattle.noc_model.specs.Tile.{start_tile};
 ghost use Rattle.vc_partition.specs.Picks.{from_on};
-ghost use Rattle.slot_switch.specs.Switch.{ask_at, turn_at, switch_at, better_ask, with_ask, chosen_in, granted_to, granted_in, moved, start_of};
+ghost use Rattle.slot_switch.specs.Switch.{ask_at, turn_at, switch_at, better_ask, with_ask, chosen_in, granted_to, granted_in, moved, start_of, IsSwitch};
+ghost use Rattle.slot_switch.specs.Shown.{IsFor, Keeps};
 
 pub mod laws;
+mod step;
 #[cfg(test)]
 mod tests;
 
@@ -85,7 +89,9 @@ impl SlotSwitch {
     /// When memory runs out.
     pub fn new(alloc: Global, plan: &Plan, tile: u32) -> Result<SlotSwitch, AllocError>
         requires { tile < tiles plan.now }
-        ensures { IfOk result (λ switch. switch ≡ start_of plan.now) }
+        ensures start { IfOk result (λ switch. switch ≡ start_of plan.now) }
+        ensures made { IfOk result (λ switch. IsFor switch plan.now) }
+        ensures pointers { IfOk result (λ switch. (d : ℕ) → Keeps switch plan.now d (start_tile plan.now)) }
     {
         plan.known();
         let counts = port_counts(alloc, plan)?;
@@ -166,6 +172,13 @@ impl SlotSwitch {
         None
     }
 
+    /// Lets callers' proofs use the invariant. It does nothing.
+    fn known(&self)
+        ensures { IsSwitch self.now }
+    {
+        let _ = &self.ports;
+    }
+
     /// The ports of the tile.
     fn ports(&self) -> u32
         ensures value { result ≡ self.now.ports }
@@ -230,6 +243,7 @@ impl SlotSwitch {
         requires domain { d < length self.old.asks }
         requires output { out < self.old.ports }
         ensures value { result ≡ granted_in self.old d out }
+        ensures below { IfSome result (λ granted. granted.port < self.old.ports) }
         ensures moved { self.new ≡ moved self.old d out (granted_in self.old d out) }
     {
         let granted = self.granted(d, out);

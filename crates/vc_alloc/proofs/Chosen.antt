@@ -63,7 +63,7 @@ and-both : (a b : Bool) → (a && b) ≡ true → (a ≡ true) × (b ≡ true)
 and-both true b e = (refl, e)
 and-both false b e = absurd (cc e)
 
-winner-free : (p : Plan) (d n o : ℕ) (s : Tile) (k : ℕ) → winner p d n s o ≡ Some k → is_some (free_at p d n s o k) ≡ true
+pub winner-free : (p : Plan) (d n o : ℕ) (s : Tile) (k : ℕ) → winner p d n s o ≡ Some k → is_some (free_at p d n s o k) ≡ true
 unfolding winner
 winner-free p d n o s k e =
     let member = pick-member (input_count p d) (is_candidate p d n s o) (s.allocation o) k e in

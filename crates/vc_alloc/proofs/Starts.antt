@@ -1,10 +1,10 @@
 -- The allocator at the start.
-use Rattle.std.proofs.Common.{◌≡◌, ℕ, zero, suc, ◌+◌, ◌*◌, ◌<◌, ◌≤◌, List, [], ◌∷◌, ◌++◌, length, map, replicate, get_or, refl, sym, ap, ◌∙◌, arith, Bool, true, false, Option, None}
+use Rattle.std.proofs.Common.{◌≡◌, ℕ, ◌+◌, ◌*◌, ◌<◌, ◌≤◌, List, [], ◌∷◌, ◌++◌, length, map, replicate, get_or, refl, sym, ap, ◌∙◌, arith, Bool, true, false, Option, None}
 use Rattle.std.specs.List.{range_with_len}
 use Rattle.std.specs.Prelude.{if◌then◌else◌}
 use Rattle.std.proofs.lemmas.Option.{slice_get-get_or}
 use Rattle.noc_model.specs.declared.plan.DomainPart.{DomainPart}
-use Rattle.std.proofs.lemmas.List.{length-map, get_or-map, length-replicate}
+use Rattle.std.proofs.lemmas.List.{length-replicate}
 use Rattle.std.proofs.lemmas.List.FromFn.{map-range_with_len_more, get_or-map-range_with_len, length-map-range_with_len}
 use Rattle.noc_model.specs.Plan.{Plan, ports, channels, channels_in, link_channels}
 use Rattle.noc_model.specs.Sound.{IsSound}
@@ -12,6 +12,7 @@ use Rattle.noc_model.specs.Inputs.{input_count}
 use Rattle.vc_partition.specs.Lanes.{lane}
 use Rattle.vc_alloc.specs.declared.Winner.{Winner}
 use Rattle.vc_alloc.specs.Allocator.{Allocator, IsAllocator, start_of}
+use Rattle.vc_alloc.specs.Shown.{IsFor}
 
 -- a list by number that is made one after the other
 pub one-more : (f : ℕ → ℕ) (xs ys : List ℕ) (d k : ℕ) → ys ≡ xs ++ k ∷ [] → xs ≡ map f (range_with_len 0 d) → k ≡ f d → ys ≡ map f (range_with_len 0 (d + 1))
@@ -68,6 +69,14 @@ module _ (p : Plan) (sound : IsSound p) (n : ℕ) where
     few = λ d there. let b = at (link_channels p) d (below d there) in let h = has-channels d (below d there) in let w = few p.torus (channels p d) h.1 in omega (arith, b, w);
     spots = λ d there. lane-length (input_count p) None count d (below d there) ∙ ap (λ k. k * link_channels p d) (sym best) ∙ ap (λ k. length (start_of p n).best * k) (sym (at (link_channels p) d (below d there)));
     outputs = λ d there. lane-length (λ d. ports p) 0 count d (below d there) ∙ sym best;
+  }
+
+  pub start-for : (d : ℕ) → d < count → IsFor (start_of p n) p d
+  start-for d there = record {
+    domain = let a = length-of (channels p) in omega (arith, a, there);
+    port_count = best;
+    class = at (channels p) d there;
+    link = at (link_channels p) d there;
   }
 
   -- an allocator that is made of the lists of a plan is the one at the start

@@ -1,5 +1,5 @@
 -- The channel allocator of a tile.
-use Rattle.std.specs.Prelude.{◌≡◌, ℕ, ◌+◌, ◌*◌, ◌<◌, ◌≤◌, Bool, not, List, [], map, replicate, length, slice_index, slice_index_or, slice_set, Option, Some, None, is_some, option_map, if◌then◌else◌}
+use Rattle.std.specs.Prelude.{◌≡◌, ℕ, ◌+◌, ◌*◌, ◌<◌, ◌≤◌, Bool, not, List, map, replicate, length, slice_index, slice_index_or, slice_set, Option, Some, None, is_some, option_map, if◌then◌else◌}
 use Rattle.std.specs.List.{range_with_len}
 use Rattle.noc_model.specs.Plan.{Plan, ports, link_channels, channels, at_local}
 use Rattle.noc_model.specs.Inputs.{input_count}

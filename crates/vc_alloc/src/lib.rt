@@ -3,8 +3,8 @@
 //! [`VcAlloc`] knows for each output channel of a tile which input holds it (Dally and Towles, section 16.1). An input
 //! that waits for an output is made known by `want`; for each output a round-robin arbiter picks one of those that
 //! could have a free channel of their class, and `commit` gives it the least such channel. Inputs may come in any
-//! order: the best so far is all that is kept. Which inputs wait, and when a channel is free again, is left to the
-//! router.
+//! order: the best so far is all that is kept. `step` does all of this for the inputs of a tile, and each domain's part
+//! is that of the definition. When a channel is free again is left to the router.
 #![tactic(auto)]
 
 ghost use Rattle.std.specs.Prelude.{◌≡◌, ◌<◌, ◌≤◌, ◌+◌, ◌*◌, ℕ, true, length, map, replicate, None, IfSome, IfOk};
@@ -16,9 +16,10 @@ ghost use Rattle.noc_model.specs.Step.{winner};
 ghost use Rattle.vc_partition.specs.Lanes.{lane};
 ghost use Rattle.vc_alloc.specs.Chosen.{winner_with, free_at};
 ghost use Rattle.vc_alloc.specs.Shown.{stage_at, GoesBelow, IsFor, Shows, wanted_at};
-ghost use Rattle.vc_alloc.specs.Allocator.{channels_at, link_channels_at, held_at, best_at, pointer_at, free_in, better_of, wanted, with_best, with_holder, taken, committed, AreOf, start_of};
+ghost use Rattle.vc_alloc.specs.Allocator.{channels_at, link_channels_at, held_at, best_at, pointer_at, free_in, better_of, wanted, with_best, with_holder, taken, committed, AreOf, start_of, IsAllocator};
 
 pub mod laws;
+mod step;
 #[cfg(test)]
 mod tests;
 
@@ -113,7 +114,9 @@ impl VcAlloc {
     /// When memory runs out.
     pub fn new(alloc: Global, plan: &Plan, tile: u32) -> Result<VcAlloc, AllocError>
         requires { tile < tiles plan.now }
-        ensures { IfOk result (λ allocator. allocator ≡ start_of plan.now tile) }
+        ensures start { IfOk result (λ allocator. allocator ≡ start_of plan.now tile) }
+        ensures made { IfOk result (λ allocator. (d : ℕ) → d < length plan.now.domains
+            → IsFor allocator plan.now d) }
     {
         plan.known();
         let channels = class_counts(alloc, plan)?;
@@ -204,6 +207,21 @@ impl VcAlloc {
         if out == 0 { 1 } else { channels }
     }
 
+    /// Lets callers' proofs use the invariant. It does nothing.
+    fn known(&self)
+        ensures { IsAllocator self.now }
+    {
+        let _ = &self.best;
+    }
+
+    /// The outputs of the tile.
+    fn outputs(&self) -> u32
+        ensures value { result ≡ length self.now.best }
+        ensures few { result ≤ 7 }
+    {
+        self.best.len() as u32
+    }
+
     /// The best input so far that wants an output.
     fn best(&self, out: u32) -> Option<Winner>
         requires { out < length self.now.best }
@@ -247,6 +265,7 @@ impl VcAlloc {
         ensures best { (s : Tile) (o : ℕ) → Shows self.old stages.now plan.now d s → o < ports plan.now → best_at self.new o
             ≡ winner_with (free_at plan.now d self.old.tile s o) (winner plan.now d self.old.tile s o) }
         ensures rest { self.new ≡ record self.old { best = self.new.best } }
+        ensures outputs { length self.new.best ≡ length self.old.best }
         ensures same { AreOf self.new d }
     {
         for i in 0..plan.ports() * plan.link_channels(d) {

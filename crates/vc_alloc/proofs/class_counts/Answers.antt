@@ -1,5 +1,3 @@
-use Rattle.std.proofs.Common.{List, ℕ, arith, ◌∙◌, sym, ap, map, ◌++◌, ◌∷◌, []}
-use Rattle.std.specs.List.{range_with_len}
 use Rattle.vc_alloc.proofs.Starts.{one-more}
 use Rattle.noc_model.specs.Plan.{channels}
 use Rattle.vc_alloc.proofs.class_counts.Goals as goal

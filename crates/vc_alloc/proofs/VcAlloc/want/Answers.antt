@@ -1,4 +1,4 @@
-use Rattle.std.proofs.Common.{◌≡◌, Option, Some, None, sym, ◌∙◌, ap}
+use Rattle.std.proofs.Common.{Some, sym, ◌∙◌, ap}
 use Rattle.vc_alloc.specs.declared.Winner.{Winner}
 use Rattle.vc_alloc.proofs.Winners.{with-of, wanted-of}
 use Rattle.vc_alloc.proofs.VcAlloc.want.Goals as goal
