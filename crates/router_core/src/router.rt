@@ -1,0 +1,179 @@
+//! The router of a tile.
+
+ghost use Rattle.std.specs.Prelude.{◌≡◌, ◌≢◌, ◌<◌, ◌+◌, ◌++◌, ◌∷◌, [], ℕ, length, slice_set, IfOk};
+ghost use Rattle.noc_model.specs.Plan.{Plan as PlanValue, tiles, ports, lanes};
+ghost use Rattle.noc_model.specs.Inputs.{place};
+ghost use Rattle.noc_model.specs.Tile.{Tile, start_tile};
+ghost use Rattle.noc_model.specs.Step.{is_open};
+ghost use Rattle.noc_model.specs.Events.{ejected_of};
+ghost use Rattle.wave_sched.specs.Wheels.{Stands};
+ghost use Rattle.credit_links.specs.Counts.{count_at, with_count};
+ghost use Rattle.router_core.specs.Buffers.{flits_at, with_flits};
+ghost use Rattle.router_core.specs.Parts.{start_parts};
+ghost use Rattle.router_core.specs.Sizes.{IsMade};
+ghost use Rattle.router_core.specs.Shown.{Shows, with_flit, with_credit};
+
+use crate::attachments::{Attachment, Told, nothing_told, start_attachments};
+use crate::buffers::Buffers;
+use credit_links::Credits;
+use flit_word::{Ejected, LinkFlit};
+use noc_model::Plan;
+use slot_switch::SlotSwitch;
+use std::alloc::{AllocError, Global};
+use std::marker::Model;
+use tile_iface::{ejected_of, is_ready_packet};
+use vc_alloc::VcAlloc;
+use vc_partition::{Lanes, Stage, input_counts, place, port_counts};
+use wave_sched::Wheel;
+
+/// What a tile keeps for all domains.
+#[derive(Drop)]
+pub struct Router {
+    tile: u32,
+    buffers: Buffers,
+    stages: Lanes<Stage>,
+    /// Of each domain and input port, the channel that a flit left in the last cycle.
+    pulses: Lanes<Option<u32>>,
+    allocator: VcAlloc,
+    switch: SlotSwitch,
+    credits: Credits,
+    attachments: Vec<Attachment>,
+    told: Vec<Told>,
+    wheel: Wheel,
+}
+
+impl Model for Router {
+    ghost use Rattle.router_core.specs.Parts.{Parts};
+
+    ghost Value = { Parts };
+
+    ghost view = { λ a. record {
+      tile = a.tile;
+      buffers = a.buffers;
+      stages = a.stages;
+      pulses = a.pulses;
+      allocator = a.allocator;
+      switch = a.switch;
+      credits = a.credits;
+      attachments = a.attachments.items;
+      told = a.told.items;
+      wheel = a.wheel;
+    } };
+}
+
+impl Router {
+    /// The router of a tile (below `tiles`) at the start. All memory is taken here.
+    ///
+    /// # Errors
+    ///
+    /// When memory runs out.
+    pub fn new(alloc: Global, plan: &Plan, tile: u32) -> Result<Router, AllocError>
+        requires { tile < tiles plan.now }
+        ensures value { IfOk result (λ router. router ≡ start_parts plan.now tile router.wheel) }
+        ensures made { IfOk result (λ router. IsMade router plan.now) }
+        ensures wheel { IfOk result (λ router. Stands router.wheel plan.now tile 0) }
+        ensures shows { IfOk result (λ router. (d : ℕ) → d < length plan.now.domains
+            → Shows router plan.now d (start_tile plan.now)) }
+    {
+        plan.known();
+        let inputs = input_counts(alloc, plan)?;
+        let outputs = port_counts(alloc, plan)?;
+        let buffers = Buffers::new(alloc, plan)?;
+        let stages = Lanes::new(alloc, &inputs, Stage::Idle)?;
+        let pulses = Lanes::new(alloc, &outputs, None)?;
+        let allocator = VcAlloc::new(alloc, plan, tile)?;
+        let switch = SlotSwitch::new(alloc, plan, tile)?;
+        let credits = Credits::new(alloc, plan)?;
+        let attachments = start_attachments(alloc, plan)?;
+        let told = nothing_told(alloc, plan)?;
+        let wheel = Wheel::new(alloc, plan, tile)?;
+        Ok(Router {
+            tile,
+            buffers,
+            stages,
+            pulses,
+            allocator,
+            switch,
+            credits,
+            attachments,
+            told,
+            wheel,
+        })
+    }
+
+    /// What the outside does at the attachment of domain `d` in this cycle. All else stays.
+    pub fn tell(&mut self, d: u32, told: Told)
+        requires { d < length self.old.told }
+        ensures value { self.new ≡ record self.old { told = slice_set self.old.told d told } }
+        ensures shows { (p : PlanValue) (e : ℕ) (s : Tile) → Shows self.old p e s → Shows self.new p e s }
+        ensures made { (p : PlanValue) → IsMade self.old p → IsMade self.new p }
+    {
+        self.told[d as usize] = told;
+    }
+
+    /// Whether a word that is offered to the attachment of domain `d` is taken.
+    pub fn ready(&self, plan: &Plan, d: u32) -> bool
+        requires made { IsMade self.now plan.now }
+        requires domain { d < length plan.now.domains }
+        ensures { (s : Tile) → Shows self.now plan.now d s → result ≡ is_open plan.now s }
+    {
+        let attachment = self.attachments[d as usize];
+        let count = self.buffers.len(d, place(plan, d, 0, attachment.current));
+        is_ready_packet(attachment.packet, count as usize, plan.buffer())
+    }
+
+    /// The drop pulse of domain `d`: whether a word that was taken in the cycle before was dropped.
+    pub fn drop_pulse(&self, d: u32) -> bool
+        requires { d < length self.now.attachments }
+        ensures { (p : PlanValue) (s : Tile) → Shows self.now p d s → result ≡ s.dropped }
+    {
+        self.attachments[d as usize].dropped
+    }
+
+    /// The flit in the ejection place of domain `d`, as it is given out.
+    pub fn ejected(&self, d: u32) -> Option<Ejected>
+        requires { d < length self.now.attachments }
+        ensures { (p : PlanValue) (s : Tile) → Shows self.now p d s → result ≡ ejected_of s.ejected }
+    {
+        ejected_of(self.attachments[d as usize].ejected)
+    }
+
+    /// A flit of domain `d` arrives by a port (below the tile's ports), on a channel of the domain in whose buffer there
+    /// is room.
+    pub fn arrive(&mut self, plan: &Plan, d: u32, port: u32, x: LinkFlit)
+        requires made { IsMade self.old plan.now }
+        requires domain { d < length plan.now.domains }
+        requires port { port < ports plan.now }
+        requires channel { x.channel < lanes plan.now d }
+        requires room { length (flits_at self.old.buffers d (place plan.now d port x.channel)) < plan.now.buffer }
+        ensures value { self.new ≡ record self.old {
+          buffers = with_flits self.old.buffers d (place plan.now d port x.channel)
+              (flits_at self.old.buffers d (place plan.now d port x.channel) ++ x.flit ∷ []);
+        } }
+        ensures own { (s : Tile) → Shows self.old plan.now d s → Shows self.new plan.now d (with_flit s port x) }
+        ensures others { (e : ℕ) (s : Tile) → e ≢ d → Shows self.old plan.now e s → Shows self.new plan.now e s }
+        ensures made { IsMade self.new plan.now }
+    {
+        self.buffers
+            .push(d, place(plan, d, port, x.channel), x.flit);
+    }
+
+    /// A credit of domain `d` comes back for channel `w` of an output port that has a link. Not all slots of the buffer
+    /// there are free.
+    pub fn restore(&mut self, plan: &Plan, d: u32, port: u32, w: u32)
+        requires made { IsMade self.old plan.now }
+        requires domain { d < length plan.now.domains }
+        requires port { port < ports plan.now }
+        requires channel { w < lanes plan.now d }
+        requires room { count_at self.old.credits d (place plan.now d port w) < plan.now.buffer }
+        ensures value { self.new ≡ record self.old {
+          credits = with_count self.old.credits d (place plan.now d port w)
+              (count_at self.old.credits d (place plan.now d port w) + 1);
+        } }
+        ensures own { (s : Tile) → Shows self.old plan.now d s → Shows self.new plan.now d (with_credit s port w) }
+        ensures others { (e : ℕ) (s : Tile) → e ≢ d → Shows self.old plan.now e s → Shows self.new plan.now e s }
+        ensures made { IsMade self.new plan.now }
+    {
+        self.credits.restore(d, place(plan, d, port, w));
+    }
+}
