@@ -1,9 +1,9 @@
 -- What a router shows where a flit has arrived, or a credit has come back.
-use Rattle.std.proofs.Common.{◌≡◌, ◌≢◌, ℕ, ◌+◌, ◌<◌, Bool, true, false, List, [], ◌∷◌, ◌++◌, length, get_or, refl, sym, ap, ◌∙◌, arith, ⊎_elim}
+use Rattle.std.proofs.Common.{◌≡◌, ◌≢◌, ℕ, ◌+◌, ◌<◌, Bool, List, [], ◌∷◌, ◌++◌, length, get_or, sym, ap, ◌∙◌, arith, ⊎_elim}
 use Rattle.std.specs.Prelude.{if◌then◌else◌}
 use Rattle.noc_model.specs.declared.LinkFlit.{LinkFlit}
 use Rattle.noc_model.specs.Plan.{Plan, ports, lanes}
-use Rattle.noc_model.specs.Inputs.{place, input_count}
+use Rattle.noc_model.specs.Inputs.{place}
 use Rattle.noc_model.proofs.Inputs.{place-below}
 use Rattle.noc_model.specs.Tile.{Tile}
 use Rattle.flit_pool.specs.Lists.{Lists, list_at}
@@ -14,7 +14,7 @@ use Rattle.router_core.specs.Buffers.{lists_at, flits_at, with_flits}
 use Rattle.router_core.specs.Parts.{Parts}
 use Rattle.router_core.specs.Sizes.{IsMade}
 use Rattle.router_core.specs.Shown.{Shows, with_flit, with_credit}
-use Rattle.router_core.proofs.Frames.{is_at, same-place, flits-written, flits-other, lists-other, has-buffers, has-credits}
+use Rattle.router_core.proofs.Frames.{same-place, flits-written, flits-other, lists-other, has-buffers, has-credits}
 
 -- ---- a flit
 

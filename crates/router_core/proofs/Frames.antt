@@ -1,17 +1,17 @@
 -- What one write changes, and what stays.
-use Rattle.std.proofs.Common.{◌≡◌, ◌≢◌, ℕ, ◌+◌, ◌<◌, Bool, true, false, List, [], ◌∷◌, ◌++◌, length, get_or, set, get_or-set_same, get_or-set_other, length-set, refl, sym, ap, ◌∙◌, arith, ⊎_elim, ◌⊎◌, inl, inr}
+use Rattle.std.proofs.Common.{◌≡◌, ◌≢◌, ℕ, ◌<◌, Bool, true, false, List, [], length, set, get_or-set_same, get_or-set_other, length-set, sym, ap, ◌∙◌, arith, ⊎_elim, ◌⊎◌, inl, inr}
 use Rattle.std.specs.Prelude.{◌==◌, ◌&&◌}
 use Rattle.std.proofs.lemmas.Bool.Decides.{eqb_tells}
 use Rattle.noc_model.specs.declared.Flit.{Flit}
 use Rattle.noc_model.specs.Plan.{Plan, lanes}
-use Rattle.noc_model.specs.Inputs.{place, input_count}
+use Rattle.noc_model.specs.Inputs.{place}
 use Rattle.noc_model.proofs.Inputs.{place-one}
 use Rattle.flit_pool.specs.Lists.{Lists, list_at}
 use Rattle.vc_partition.specs.Lanes.{lane}
 use Rattle.credit_links.specs.Counts.{Counts, with_count}
 use Rattle.route_stage.specs.Routed.{HasInputs}
 use Rattle.router_core.specs.Buffers.{no_lists, lists_at, flits_at, with_flits}
-use Rattle.router_core.specs.Sizes.{HasBuffers, HasCredits}
+use Rattle.router_core.specs.Sizes.{HasBuffers, HasPorts, HasCredits}
 
 -- ---- places
 
@@ -82,6 +82,14 @@ has-inputs p v d k x there h =
     record {
       domains = length-set v d _ ∙ h.domains;
       inputs = λ e below. lane-count v d e k x inside ∙ h.inputs e below;
+    }
+
+pub has-ports : {T : Type 0} (p : Plan) (v : List (List T)) (d k : ℕ) (x : T) → d < length p.domains → HasPorts p v → HasPorts p (set v d (set (lane v d) k x))
+has-ports p v d k x there h =
+    let inside : d < length v = let a = h.domains in omega (arith, a, there) in
+    record {
+      domains = length-set v d _ ∙ h.domains;
+      ports = λ e below. lane-count v d e k x inside ∙ h.ports e below;
     }
 
 pub has-credits : (p : Plan) (x : Counts) (d k n : ℕ) → d < length p.domains → HasCredits p x → HasCredits p (with_count x d k n)

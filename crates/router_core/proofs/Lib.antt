@@ -1,3 +1,5 @@
 pub mod Frames
 pub mod Start
 pub mod Arrived
+pub mod Given
+pub mod Placed

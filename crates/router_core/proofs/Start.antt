@@ -1,20 +1,21 @@
 -- The router of a tile at the start shows the start of each domain.
-use Rattle.std.proofs.Common.{◌≡◌, ◌≢◌, ℕ, zero, suc, ◌+◌, ◌*◌, ◌<◌, Bool, List, [], ◌∷◌, ◌++◌, length, map, replicate, get_or, refl, sym, ap, ◌∙◌, arith, Option, None}
+use Rattle.std.proofs.Common.{◌≡◌, ℕ, zero, suc, ◌+◌, ◌<◌, List, [], ◌∷◌, ◌++◌, length, map, replicate, get_or, refl, sym, ap, ◌∙◌, arith, Option, None}
 use Rattle.std.specs.Prelude.{is_some}
 use Rattle.std.specs.List.{range_with_len}
 use Rattle.std.proofs.lemmas.List.{length-replicate}
 use Rattle.std.proofs.lemmas.List.FromFn.{map-range_with_len_more, get_or-map-range_with_len, length-map-range_with_len}
+use Rattle.noc_model.specs.declared.Grant.{Grant}
 use Rattle.noc_model.specs.declared.Stage.{Stage}
 use Rattle.noc_model.specs.declared.Stage.TheVariants.{Idle}
 use Rattle.noc_model.specs.Plan.{Plan, tiles, ports, channels, lanes}
 use Rattle.noc_model.specs.Sound.{IsSound}
 use Rattle.noc_model.specs.Inputs.{place, input_count}
-use Rattle.noc_model.specs.Tile.{Tile, start_tile}
+use Rattle.noc_model.specs.Tile.{start_tile}
 use Rattle.noc_model.proofs.Inputs.{place-below}
 use Rattle.noc_model.proofs.StateKept.{some-channels}
 use Rattle.flit_pool.specs.Lists.{Lists, list_at}
 use Rattle.vc_partition.specs.Lanes.{lane}
-use Rattle.credit_links.specs.Counts.{Counts, count_at, full_counts}
+use Rattle.credit_links.specs.Counts.{Counts, full_counts}
 use Rattle.vc_alloc.specs.Allocator.{Allocator, spot, held_at, pointer_at}
 use Rattle.vc_alloc.specs.Allocator as allocators
 use Rattle.slot_switch.specs.Switch.{Switch}
@@ -24,9 +25,9 @@ use Rattle.router_core.specs.declared.attachments.Attachment.{Attachment}
 use Rattle.router_core.specs.declared.attachments.Told.{Told}
 use Rattle.router_core.specs.Attachments.{start_attachment, attachment_at, nothing_told}
 use Rattle.router_core.specs.Buffers.{no_lists, lists_at, empty_lists, empty_buffers}
-use Rattle.router_core.specs.Pulses.{is_pulse, pulse_at, no_pulses}
+use Rattle.router_core.specs.Pulses.{is_pulse, no_pulses}
 use Rattle.router_core.specs.Parts.{Parts, start_parts}
-use Rattle.router_core.specs.Sizes.{HasBuffers, HasPorts, IsMade}
+use Rattle.router_core.specs.Sizes.{IsMade}
 use Rattle.router_core.specs.Shown.{Shows}
 
 -- where one value stands at each place, it is read everywhere
@@ -99,8 +100,15 @@ module _ (p : Plan) (n : ℕ) (w : Wheel) where
         class = number-at (channels p) d there;
         link = number-at (lanes p) d there;
       };
+      holders = record { domains = count-of (λ d. let l : List (Option ℕ) = replicate (input_count p d) None in l); inputs = λ d there. lane-long (input_count p) None d there };
+      pointers = record { domains = count-of (λ d. replicate (ports p) 0); ports = λ d there. lane-long (λ e. ports p) 0 d there };
     };
-    switch = record { port_count = refl; domains = count-of (λ d. let l : List (Option _) = replicate (ports p) None in l) };
+    switch = record {
+      port_count = refl;
+      asks = record { domains = count-of (λ d. let l : List (Option Grant) = replicate (ports p) None in l); ports = λ d there. lane-long (λ e. ports p) None d there };
+      turns = record { domains = count-of (λ d. replicate (ports p) 0); ports = λ d there. lane-long (λ e. ports p) 0 d there };
+      switches = record { domains = count-of (λ d. replicate (ports p) 0); ports = λ d there. lane-long (λ e. ports p) 0 d there };
+    };
     credits = record {
       counts = record { domains = count-of (λ d. replicate (input_count p d) p.buffer); inputs = λ d there. lane-long (input_count p) p.buffer d there };
       buffer = refl;

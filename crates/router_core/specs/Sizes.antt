@@ -34,11 +34,15 @@ pub record HasCredits (p : Plan) (x : Counts) : Type 0 where
 pub record HasAllocator (p : Plan) (n : ℕ) (x : Allocator) : Type 0 where
   pub tile : x.tile ≡ n
   pub domains : (d : ℕ) → d < length p.domains → IsFor x p d
+  pub holders : HasInputs p x.holders
+  pub pointers : HasPorts p x.pointers
 
 -- a switch for each domain
 pub record HasSwitch (p : Plan) (x : Switch) : Type 0 where
   pub port_count : x.ports ≡ ports p
-  pub domains : length x.asks ≡ length p.domains
+  pub asks : HasPorts p x.asks
+  pub turns : HasPorts p x.turns
+  pub switches : HasPorts p x.switches
 
 -- an attachment for each domain, whose current channel is there
 pub record HasAttachments (p : Plan) (xs : List Attachment) : Type 0 where

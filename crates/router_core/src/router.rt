@@ -1,6 +1,6 @@
 //! The router of a tile.
 
-ghost use Rattle.std.specs.Prelude.{◌≡◌, ◌≢◌, ◌<◌, ◌+◌, ◌++◌, ◌∷◌, [], ℕ, length, slice_set, IfOk};
+ghost use Rattle.std.specs.Prelude.{◌≡◌, ◌≢◌, ◌<◌, ◌+◌, ◌++◌, ◌∷◌, [], ℕ, length, slice_set, None, IfOk};
 ghost use Rattle.noc_model.specs.Plan.{Plan as PlanValue, tiles, ports, lanes};
 ghost use Rattle.noc_model.specs.Inputs.{place};
 ghost use Rattle.noc_model.specs.Tile.{Tile, start_tile};
@@ -8,13 +8,18 @@ ghost use Rattle.noc_model.specs.Step.{is_open};
 ghost use Rattle.noc_model.specs.Events.{ejected_of};
 ghost use Rattle.wave_sched.specs.Wheels.{Stands};
 ghost use Rattle.credit_links.specs.Counts.{count_at, with_count};
+ghost use Rattle.route_stage.specs.Routed.{stage_at};
+ghost use Rattle.vc_alloc.specs.Allocator.{best_at};
+ghost use Rattle.vc_alloc.specs.Shown.{GoesBelow};
 ghost use Rattle.router_core.specs.Buffers.{flits_at, with_flits};
+ghost use Rattle.router_core.specs.Heads.{FrontsGo, placed};
 ghost use Rattle.router_core.specs.Parts.{start_parts};
 ghost use Rattle.router_core.specs.Sizes.{IsMade};
 ghost use Rattle.router_core.specs.Shown.{Shows, with_flit, with_credit};
 
 use crate::attachments::{Attachment, Told, nothing_told, start_attachments};
 use crate::buffers::Buffers;
+use crate::heads::{give_channels, route_heads, want_heads};
 use credit_links::Credits;
 use flit_word::{Ejected, LinkFlit};
 use noc_model::Plan;
@@ -175,5 +180,25 @@ impl Router {
         ensures made { IsMade self.new plan.now }
     {
         self.credits.restore(d, place(plan, d, port, w));
+    }
+
+    /// Places the heads of domain `d`: a packet whose head has come to the front of an idle channel gets its route, and
+    /// of the packets that wait for an output the round-robin choice gets the least free channel of its class.
+    fn place_heads(&mut self, plan: &Plan, d: u32)
+        requires made { IsMade self.old plan.now }
+        requires domain { d < length plan.now.domains }
+        requires dest { FrontsGo plan.now self.old.buffers d }
+        requires outs { (k : ℕ) → GoesBelow (ports plan.now) (stage_at self.old.stages d k) }
+        requires quiet { (o : ℕ) → best_at self.old.allocator o ≡ None }
+        ensures rest { self.new ≡ record self.old { allocator = self.new.allocator; stages = self.new.stages } }
+        ensures own { (s : Tile) → Shows self.old plan.now d s
+            → Shows self.new plan.now d (placed plan.now d self.old.tile s) }
+        ensures others { (e : ℕ) (s : Tile) → e ≢ d → Shows self.old plan.now e s → Shows self.new plan.now e s }
+        ensures made { IsMade self.new plan.now }
+        ensures quiet { (o : ℕ) → o < ports plan.now → best_at self.new.allocator o ≡ None }
+    {
+        want_heads(plan, self.tile, d, &self.stages, &mut self.allocator);
+        route_heads(plan, self.tile, d, &self.buffers, &mut self.stages);
+        give_channels(plan, d, &mut self.allocator, &mut self.stages);
     }
 }

@@ -1,5 +1,4 @@
-use Rattle.std.proofs.Common.{List, ℕ, ◌*◌, arith, ◌∙◌, sym, ap, map, ◌++◌, ◌∷◌, [], replicate, ◌≡◌}
-use Rattle.std.specs.List.{range_with_len}
+use Rattle.std.proofs.Common.{List, ◌*◌, ◌∙◌, ap, [], replicate, ◌≡◌}
 use Rattle.noc_model.specs.declared.Flit.{Flit}
 use Rattle.noc_model.specs.Plan.{ports}
 use Rattle.noc_model.specs.Inputs.{input_count}

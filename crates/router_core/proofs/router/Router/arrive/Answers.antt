@@ -1,11 +1,11 @@
-use Rattle.std.proofs.Common.{◌≡◌, ◌∙◌, ◌++◌, ◌∷◌, [], List, ℕ, sym, ap, subst}
+use Rattle.std.proofs.Common.{◌∙◌, ◌++◌, ◌∷◌, [], List, ℕ, sym, ap, subst}
 use Rattle.noc_model.specs.Inputs.{place}
 use Rattle.flit_pool.specs.Lists.{Lists}
 use Rattle.router_core.specs.Buffers.{flits_at, with_flits}
 use Rattle.router_core.specs.Parts.{Parts}
 use Rattle.router_core.specs.Shown.{Shows, with_flit}
 use Rattle.router_core.specs.Sizes.{IsMade}
-use Rattle.router_core.proofs.Arrived.{fed_parts, fed-made, fed-own, fed-others}
+use Rattle.router_core.proofs.Arrived.{fed-made, fed-own, fed-others}
 use Rattle.router_core.proofs.router.Router.arrive.Goals as goal
 
 pub returns-clause-value : goal.returns-clause-value

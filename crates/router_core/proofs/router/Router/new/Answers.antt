@@ -1,4 +1,4 @@
-use Rattle.std.proofs.Common.{◌≡◌, ◌∙◌, ◌<◌, ℕ, List, length, map, replicate, sym, ap, subst, Option, None}
+use Rattle.std.proofs.Common.{◌∙◌, ℕ, List, length, map, replicate, sym, ap, subst, Option, None}
 use Rattle.std.specs.List.{range_with_len}
 use Rattle.noc_model.specs.declared.Stage.{Stage}
 use Rattle.noc_model.specs.declared.Stage.TheVariants.{Idle}

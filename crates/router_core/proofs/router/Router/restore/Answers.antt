@@ -1,4 +1,4 @@
-use Rattle.std.proofs.Common.{◌≡◌, ◌∙◌, ◌+◌, ℕ, sym, ap, subst}
+use Rattle.std.proofs.Common.{◌∙◌, ◌+◌, ℕ, sym, ap, subst}
 use Rattle.noc_model.specs.Inputs.{place}
 use Rattle.credit_links.specs.Counts.{Counts, count_at, with_count}
 use Rattle.router_core.specs.Parts.{Parts}
