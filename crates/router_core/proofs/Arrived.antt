@@ -36,6 +36,7 @@ module _ (r : Parts) (p : Plan) (d port : ℕ) (x : LinkFlit) (made : IsMade r p
     credits = made.credits;
     attachments = made.attachments;
     told = made.told;
+    wheel = made.wheel;
   }
 
   inside : d < length r.buffers
@@ -107,6 +108,7 @@ module _ (r : Parts) (p : Plan) (d port w : ℕ) (made : IsMade r p) (there : d 
     credits = has-credits p r.credits d _ _ there made.credits;
     attachments = made.attachments;
     told = made.told;
+    wheel = made.wheel;
   }
 
   has-lane : d < length r.credits.lanes

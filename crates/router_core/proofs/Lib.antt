@@ -3,3 +3,5 @@ pub mod Start
 pub mod Arrived
 pub mod Given
 pub mod Placed
+pub mod Asked
+pub mod Takes

@@ -74,6 +74,7 @@ module _ (p : Plan) (d : ℕ) (r : Parts) (x1 y : Allocator) (v1 u : List (List 
     credits = made.credits;
     attachments = made.attachments;
     told = made.told;
+    wheel = made.wheel;
   }
 
   held-before : (e q w : ℕ) → held_at x1 e q w ≡ held_at r.allocator e q w

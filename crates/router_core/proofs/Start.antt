@@ -20,6 +20,8 @@ use Rattle.vc_alloc.specs.Allocator.{Allocator, spot, held_at, pointer_at}
 use Rattle.vc_alloc.specs.Allocator as allocators
 use Rattle.slot_switch.specs.Switch.{Switch}
 use Rattle.wave_sched.specs.declared.wheels.Wheel.{Wheel}
+use Rattle.wave_sched.specs.Starts.{port_slots}
+use Rattle.wave_sched.specs.Wheels.{Stands}
 use Rattle.slot_switch.specs.Switch as switches
 use Rattle.router_core.specs.declared.attachments.Attachment.{Attachment}
 use Rattle.router_core.specs.declared.attachments.Told.{Told}
@@ -82,8 +84,8 @@ module _ (p : Plan) (n : ℕ) (w : Wheel) where
   lane-long : {T : Type 0} (f : ℕ → ℕ) (x : T) (d : ℕ) → d < length p.domains → length (lane (map (λ e. replicate (f e) x) (range_with_len 0 (length p.domains))) d) ≡ f d
   lane-long f x d there = ap length (lane-of f x (length p.domains) d there) ∙ length-replicate (f d) x
 
-  pub start-made : IsSound p → n < tiles p → IsMade (start_parts p n w) p
-  start-made sound tile_in = record {
+  pub start-made : IsSound p → n < tiles p → Stands w p n 0 → IsMade (start_parts p n w) p
+  start-made sound tile_in stands = record {
     tile = tile_in;
     buffers = record {
       domains = count-of (empty_lists p);
@@ -118,6 +120,7 @@ module _ (p : Plan) (n : ℕ) (w : Wheel) where
       current = λ d there. let a = ap (λ (x : Attachment). x.current) (attachment-is p n d w there) in let b = some-channels p d sound there in omega (arith, a, b);
     };
     told = length-replicate (length p.domains) nothing_told;
+    wheel = ap length stands.links ∙ length-map-range_with_len (port_slots p n) 0 (ports p);
   }
 
 -- a router that is made of these parts is the one at the start

@@ -5,3 +5,4 @@ pub mod Parts
 pub mod Sizes
 pub mod Shown
 pub mod Heads
+pub mod Asks

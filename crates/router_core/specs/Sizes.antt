@@ -9,6 +9,7 @@ use Rattle.vc_partition.specs.Lanes.{lane}
 use Rattle.vc_alloc.specs.Allocator.{Allocator}
 use Rattle.vc_alloc.specs.Shown.{IsFor}
 use Rattle.slot_switch.specs.Switch.{Switch}
+use Rattle.wave_sched.specs.Wheels.{wheel_ports}
 use Rattle.router_core.specs.Buffers.{lists_at}
 use Rattle.router_core.specs.declared.attachments.Attachment.{Attachment}
 use Rattle.router_core.specs.Attachments.{attachment_at}
@@ -60,3 +61,4 @@ pub record IsMade (r : Parts) (p : Plan) : Type 0 where
   pub credits : HasCredits p r.credits
   pub attachments : HasAttachments p r.attachments
   pub told : length r.told ≡ length p.domains
+  pub wheel : wheel_ports r.wheel ≡ ports p

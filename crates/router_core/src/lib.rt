@@ -6,6 +6,7 @@
 //! does, and leaves those of all other domains. What goes over a link, and when, is left to the network.
 #![tactic(auto)]
 
+mod asks;
 mod attachments;
 mod buffers;
 mod heads;

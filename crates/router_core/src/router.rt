@@ -1,22 +1,28 @@
 //! The router of a tile.
 
-ghost use Rattle.std.specs.Prelude.{◌≡◌, ◌≢◌, ◌<◌, ◌+◌, ◌++◌, ◌∷◌, [], ℕ, length, slice_set, None, IfOk};
-ghost use Rattle.noc_model.specs.Plan.{Plan as PlanValue, tiles, ports, lanes};
-ghost use Rattle.noc_model.specs.Inputs.{place};
+ghost use Rattle.std.specs.Prelude.{◌≡◌, ◌≢◌, ◌<◌, ◌+◌, ◌++◌, ◌∷◌, [], ℕ, List, length, slice_set, None, pos, IfSome, IfOk};
+ghost use Rattle.noc_model.specs.declared.Flit.{Flit as FlitValue};
+ghost use Rattle.noc_model.specs.Plan.{Plan as PlanValue, tiles, ports, lanes, out_channels};
+ghost use Rattle.noc_model.specs.Inputs.{place, input_count, input_port, input_channel};
+ghost use Rattle.noc_model.specs.SoundState.{IsOutput, HasOutput};
 ghost use Rattle.noc_model.specs.Tile.{Tile, start_tile};
-ghost use Rattle.noc_model.specs.Step.{is_open};
+ghost use Rattle.noc_model.specs.Step.{asked, is_open, is_ready, is_ready_at, takes};
 ghost use Rattle.noc_model.specs.Events.{ejected_of};
 ghost use Rattle.wave_sched.specs.Wheels.{Stands};
 ghost use Rattle.credit_links.specs.Counts.{count_at, with_count};
 ghost use Rattle.route_stage.specs.Routed.{stage_at};
 ghost use Rattle.vc_alloc.specs.Allocator.{best_at};
+ghost use Rattle.slot_switch.specs.Switch.{ask_at};
 ghost use Rattle.vc_alloc.specs.Shown.{GoesBelow};
 ghost use Rattle.router_core.specs.Buffers.{flits_at, with_flits};
+ghost use Rattle.router_core.specs.Attachments.{told_at, outside};
+ghost use Rattle.router_core.specs.Asks.{HaveOutputs, AsksBelow, requested};
 ghost use Rattle.router_core.specs.Heads.{FrontsGo, placed};
 ghost use Rattle.router_core.specs.Parts.{start_parts};
 ghost use Rattle.router_core.specs.Sizes.{IsMade};
 ghost use Rattle.router_core.specs.Shown.{Shows, with_flit, with_credit};
 
+use crate::asks::{ask, grant_at};
 use crate::attachments::{Attachment, Told, nothing_told, start_attachments};
 use crate::buffers::Buffers;
 use crate::heads::{give_channels, route_heads, want_heads};
@@ -28,7 +34,9 @@ use std::alloc::{AllocError, Global};
 use std::marker::Model;
 use tile_iface::{ejected_of, is_ready_packet};
 use vc_alloc::VcAlloc;
-use vc_partition::{Lanes, Stage, input_counts, place, port_counts};
+use vc_partition::{
+    Grant, Lanes, Stage, channel_count, input_counts, link_channels, place, port_count, port_counts,
+};
 use wave_sched::Wheel;
 
 /// What a tile keeps for all domains.
@@ -200,5 +208,90 @@ impl Router {
         want_heads(plan, self.tile, d, &self.stages, &mut self.allocator);
         route_heads(plan, self.tile, d, &self.buffers, &mut self.stages);
         give_channels(plan, d, &mut self.allocator, &mut self.stages);
+    }
+
+    /// Whether the output channel of domain `d` takes a flit in this cycle: a link that the domain owns, with a credit;
+    /// or the ejection place, empty or heard.
+    fn takes(&self, plan: &Plan, d: u32, out: u32, to: u32) -> bool
+        requires made { IsMade self.now plan.now }
+        requires domain { d < length plan.now.domains }
+        requires output { IsOutput plan.now self.now.tile out }
+        requires channel { to < out_channels plan.now d out }
+        ensures { (s : Tile) (t : ℕ) → Shows self.now plan.now d s → Stands self.now.wheel plan.now self.now.tile t
+            → result ≡ takes plan.now d self.now.tile (pos t) s (outside (told_at self.now.told d)) out to }
+    {
+        if out == 0 {
+            self.attachments[d as usize].ejected.is_none() || self.told[d as usize].hears
+        } else {
+            self.wheel.leaving(out) == d && self.credits.count(d, place(plan, d, out, to)) > 0
+        }
+    }
+
+    /// Whether a packet of domain `d` that is in this stage may send a flit in this cycle, if it has one.
+    fn may_send(&self, plan: &Plan, d: u32, stage: Stage) -> bool
+        requires made { IsMade self.now plan.now }
+        requires domain { d < length plan.now.domains }
+        requires output { HasOutput plan.now d self.now.tile stage }
+        ensures { (s : Tile) (t : ℕ) (f : FlitValue) (fs : List FlitValue) → Shows self.now plan.now d s
+            → Stands self.now.wheel plan.now self.now.tile t
+            → result ≡ is_ready_at plan.now d self.now.tile (pos t) s (outside (told_at self.now.told d)) (f ∷ fs) stage }
+    {
+        match stage {
+            Stage::Active { out, to } => self.takes(plan, d, out, to),
+            Stage::Idle | Stage::Routed { .. } => false,
+        }
+    }
+
+    /// Whether a flit of domain `d` could go from an input in this cycle.
+    fn is_ready(&self, plan: &Plan, d: u32, k: u32) -> bool
+        requires made { IsMade self.now plan.now }
+        requires domain { d < length plan.now.domains }
+        requires input { k < input_count plan.now d }
+        requires outs { HaveOutputs plan.now d self.now }
+        ensures { (s : Tile) (t : ℕ) → Shows self.now plan.now d s → Stands self.now.wheel plan.now self.now.tile t
+            → result ≡ is_ready plan.now d self.now.tile (pos t) s (outside (told_at self.now.told d))
+            (input_port plan.now d k) (input_channel plan.now d k) }
+    {
+        self.buffers.len(d, k) > 0 && self.may_send(plan, d, *self.stages.at(d, k))
+    }
+
+    /// What an input of domain `d` asks for in this cycle.
+    fn request(&self, plan: &Plan, d: u32, k: u32) -> Option<Grant>
+        requires made { IsMade self.now plan.now }
+        requires domain { d < length plan.now.domains }
+        requires input { k < input_count plan.now d }
+        requires outs { HaveOutputs plan.now d self.now }
+        ensures value { (s : Tile) (t : ℕ) → Shows self.now plan.now d s → Stands self.now.wheel plan.now self.now.tile t
+            → result ≡ requested plan.now d self.now.tile (pos t) s (outside (told_at self.now.told d)) k }
+        ensures channel { IfSome result (λ grant. grant.channel < 8) }
+    {
+        let lanes = link_channels(plan, d);
+        let channel = k % lanes;
+        if channel < channel_count(plan, d, k / lanes) && self.is_ready(plan, d, k) {
+            grant_at(channel, *self.stages.at(d, k))
+        } else {
+            None
+        }
+    }
+
+    /// All inputs of domain `d` that may send are made known to the switch: each input port asks for what the
+    /// definition's input port asks for in this cycle.
+    fn ask_all(&mut self, plan: &Plan, d: u32)
+        requires made { IsMade self.old plan.now }
+        requires domain { d < length plan.now.domains }
+        requires outs { HaveOutputs plan.now d self.old }
+        requires quiet { (port : ℕ) → ask_at self.old.switch d port ≡ None }
+        ensures rest { self.new ≡ record self.old { switch = self.new.switch } }
+        ensures knows { AsksBelow (input_count plan.now d) plan.now d self.old self.new.switch }
+        ensures asks { (s : Tile) (t port : ℕ) → Shows self.old plan.now d s
+            → Stands self.old.wheel plan.now self.old.tile t → port < ports plan.now → ask_at self.new.switch d port
+            ≡ asked plan.now d self.old.tile (pos t) s (outside (told_at self.old.told d)) port }
+        ensures shows { (e : ℕ) (s : Tile) → Shows self.old plan.now e s → Shows self.new plan.now e s }
+        ensures made { IsMade self.new plan.now }
+    {
+        for k in 0..port_count(plan) * link_channels(plan, d) {
+            let grant = self.request(plan, d, k);
+            ask(&mut self.switch, d, k / link_channels(plan, d), grant);
+        }
     }
 }

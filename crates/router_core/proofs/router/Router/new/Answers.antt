@@ -25,7 +25,7 @@ returns-clause-value c =
 pub returns-clause-made : goal.returns-clause-made
 returns-clause-made c =
     let P : Parts → Type 0 = λ r. IsMade r c.args.plan.now in
-    subst P (sym (returns-clause-value c)) (start-made c.args.plan.now c.args.tile _ c.known.ensures c.requires)
+    subst P (sym (returns-clause-value c)) (start-made c.args.plan.now c.args.tile _ c.known.ensures c.requires c.in_ok-wheel.ensures)
 
 pub returns-clause-shows : goal.returns-clause-shows
 returns-clause-shows c = λ d there.
