@@ -3,3 +3,8 @@ pub mod Blocks
 pub mod Listed
 pub mod PortRows
 pub mod ReplayRows
+pub mod Parts
+pub mod Sets
+pub mod Families
+pub mod Muxed
+pub mod Rotated

@@ -3,3 +3,12 @@ pub mod PortSpec
 pub mod Shape
 pub mod Replayed
 pub mod Right
+pub mod Builders
+pub mod Work
+pub mod Masks
+pub mod Families
+pub mod Mux
+pub mod Groups
+pub mod Rotate
+pub mod Laws
+pub mod RotateOf
