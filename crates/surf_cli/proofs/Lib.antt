@@ -9,3 +9,5 @@ pub mod Makings
 pub mod OneReport
 pub mod Readings
 pub mod Runnings
+pub mod TextReads
+pub mod Replays

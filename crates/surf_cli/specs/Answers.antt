@@ -3,10 +3,12 @@ use Rattle.std.specs.Prelude.{◌≡◌, ◌≤◌, ◌⊎◌, ℕ, List, Option
 use Rattle.surf_base.specs.Outside.{Rose, appended, GotPrefix}
 use Rattle.noc_desc.specs.Draft.{IsMemory}
 use Rattle.noc_desc.specs.declared.DescFault.{DescFault}
+use Rattle.vl_tree.specs.Faults as text_fault
+use Rattle.vl_tree.specs.declared.fault.TextFault.{TextFault}
 use Rattle.surf_cli.specs.declared.statuses.End.{End}
 use Rattle.surf_cli.specs.declared.statuses.End.TheVariants.{Refused, Memory}
 use Rattle.surf_cli.specs.declared.refusals.Refusal.{Refusal}
-use Rattle.surf_cli.specs.declared.refusals.Refusal.TheVariants.{Description}
+use Rattle.surf_cli.specs.declared.refusals.Refusal.TheVariants.{Description, Text as TextRefusal}
 use Rattle.surf_cli.specs.declared.answers.Text.{Text}
 use Rattle.surf_cli.specs.declared.answers.Text.TheVariants as text
 use Rattle.surf_cli.specs.Lines.{IsOfContents}
@@ -46,6 +48,10 @@ IsRefused m end = (end ≡ Memory) ⊎ Refuses m end
 -- how a run ends that meets a fault of a description
 abbrev pub EndsFor : DescFault → End → Type 0
 EndsFor fault end = (end ≡ Memory) ⊎ ((IsMemory fault → ⊥) × (end ≡ Refused (Description fault)))
+
+-- how a run ends that meets a fault of a text
+abbrev pub EndsForText : TextFault → End → Type 0
+EndsForText fault end = (end ≡ Memory) ⊎ ((text_fault.IsMemory fault → ⊥) × (end ≡ Refused (TextRefusal fault)))
 
 -- the bytes are on the sink; where it failed, a prefix of them
 abbrev pub Delivers : {T E : Type 0} → Result T E → Option (List ℕ) → Option (List ℕ) → ℕ → ℕ → List ℕ → Type 0

@@ -2,12 +2,12 @@
 use Rattle.std.specs.Prelude.{ℕ, List, [], ◌∷◌, codes, if◌then◌else◌, Option, Some, None, option_map}
 use Rattle.std.specs.Str.{bytes_eq}
 use Rattle.surf_base.specs.Numbers.{decimal_in}
-use Rattle.surf_cli.specs.declared.files.FileKind.TheVariants.{Description, Trace}
+use Rattle.surf_cli.specs.declared.files.FileKind.TheVariants.{Description, Text, Trace}
 use Rattle.noc_model.specs.Limits.{most_cycles}
 use Rattle.desc_check.specs.Words.{is_name}
 use Rattle.surf_cli.specs.Limits.{table_cycles}
 use Rattle.surf_cli.specs.Files.{NamedFile, file_of}
-use Rattle.surf_cli.specs.Jobs.{Schedule, Check, Routes, Simulate, Report, Upgrade, Command, command}
+use Rattle.surf_cli.specs.Jobs.{Schedule, Check, Routes, Simulate, Report, Upgrade, Replay, Command, command}
 
 -- schedule DESC CYCLES
 abbrev pub schedule_words : List (List ℕ) → Option Command
@@ -46,6 +46,13 @@ abbrev pub upgrade_words : List (List ℕ) → Option Command
 upgrade_words (description ∷ []) = Some (command (file_of Description description ∷ []) Upgrade)
 upgrade_words _ = None
 
+-- replay DESC TEXT TRACE CYCLES
+abbrev pub replay_words : List (List ℕ) → Option Command
+replay_words (description ∷ text ∷ trace ∷ cycles ∷ []) =
+    option_map (λ n. command (file_of Description description ∷ file_of Text text ∷ file_of Trace trace ∷ []) (Replay n))
+    (decimal_in most_cycles cycles)
+replay_words _ = None
+
 -- the command of a verb and the words after it
 abbrev pub command_by : List ℕ → List (List ℕ) → Option Command
 command_by verb args =
@@ -55,6 +62,7 @@ command_by verb args =
     else if bytes_eq verb (codes "simulate") then simulate_words args
     else if bytes_eq verb (codes "report") then report_words args
     else if bytes_eq verb (codes "upgrade") then upgrade_words args
+    else if bytes_eq verb (codes "replay") then replay_words args
     else None
 
 -- the command that the words are; nothing where they are no row of the table of commands

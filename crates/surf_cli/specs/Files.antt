@@ -1,12 +1,13 @@
 -- The files that a command names.
 use Rattle.std.specs.Prelude.{ℕ, List}
 use Rattle.surf_cli.specs.declared.files.FileKind.{FileKind}
-use Rattle.surf_cli.specs.declared.files.FileKind.TheVariants.{Description, Trace}
-use Rattle.surf_cli.specs.Limits.{description_limit, trace_limit}
+use Rattle.surf_cli.specs.declared.files.FileKind.TheVariants.{Description, Text, Trace}
+use Rattle.surf_cli.specs.Limits.{description_limit, text_limit, trace_limit}
 
 -- the most bytes that a file may have, by what it is to hold
 abbrev pub limit_of : FileKind → ℕ
 limit_of Description = description_limit
+limit_of Text = text_limit
 limit_of Trace = trace_limit
 
 -- a file that a command names, and what it is to hold

@@ -11,6 +11,7 @@ pub data Job : Type 0 where
   Simulate : (cycles : ℕ) → Job
   Report : (cycles : ℕ) (domain : List ℕ) → Job
   Upgrade : Job
+  Replay : (cycles : ℕ) → Job
 
 -- the files that the words name, and what is to be done
 pub record Command : Type 0 where
@@ -25,4 +26,5 @@ command files job = record { files = files; job = job }
 abbrev pub HasFewCycles : Job → Type 0
 HasFewCycles (Simulate cycles) = cycles ≤ most_cycles
 HasFewCycles (Report cycles domain) = cycles ≤ most_cycles
+HasFewCycles (Replay cycles) = cycles ≤ most_cycles
 HasFewCycles _ = Unit {0}

@@ -4,6 +4,7 @@ pub mod Contents
 pub mod Jobs
 pub mod Commands
 pub mod Spoken
+pub mod TextLine
 pub mod Lines
 pub mod Texts
 pub mod Schedule
@@ -11,6 +12,8 @@ pub mod Turning
 pub mod Accepted
 pub mod Routes
 pub mod Simulate
+pub mod TextRead
+pub mod Replay
 pub mod Meaning
 pub mod Answers
 pub mod Runs

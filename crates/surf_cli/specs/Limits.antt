@@ -9,6 +9,10 @@ table_cycles = 4096
 abbrev pub description_limit : ℕ
 description_limit = 1048576
 
+-- the most bytes of a Verilog text
+abbrev pub text_limit : ℕ
+text_limit = 134217728
+
 -- the most bytes of a trace
 abbrev pub trace_limit : ℕ
 trace_limit = 67108864

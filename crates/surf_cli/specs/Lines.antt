@@ -4,12 +4,14 @@ use Rattle.surf_base.specs.Outside.{Rose, appended, GotPrefix}
 use Rattle.noc_desc.specs.Draft.{IsMemory}
 use Rattle.desc_check.specs.Line as description
 use Rattle.trace_read.specs.Line as trace
+use Rattle.vl_tree.specs.Faults as text_fault
+use Rattle.surf_cli.specs.TextLine as text
 use Rattle.surf_cli.specs.declared.statuses.Status.{Status}
 use Rattle.surf_cli.specs.declared.statuses.Status.TheVariants as status
 use Rattle.surf_cli.specs.declared.statuses.End.{End}
 use Rattle.surf_cli.specs.declared.statuses.End.TheVariants.{Good, Usage, Refused, Read, Write, Memory, TooLong}
 use Rattle.surf_cli.specs.declared.refusals.Refusal.{Refusal}
-use Rattle.surf_cli.specs.declared.refusals.Refusal.TheVariants.{Description, NoDomain, NotBuilt, Trace}
+use Rattle.surf_cli.specs.declared.refusals.Refusal.TheVariants.{Description, NoDomain, NotBuilt, Text, Trace}
 
 -- the number that the process ends with
 abbrev pub number_of : Status → ℕ
@@ -17,6 +19,7 @@ number_of status.Good = 0
 number_of status.Usage = 2
 number_of status.Description = 3
 number_of status.Trace = 4
+number_of status.Text = 5
 number_of status.Read = 6
 number_of status.Write = 7
 number_of status.Memory = 8
@@ -28,6 +31,7 @@ abbrev pub status_of_refusal : Refusal → Status
 status_of_refusal (Description fault) = status.Description
 status_of_refusal NoDomain = status.Domain
 status_of_refusal NotBuilt = status.Description
+status_of_refusal (Text fault) = status.Text
 status_of_refusal (Trace fault) = status.Trace
 
 -- the line of a refusal
@@ -35,6 +39,7 @@ abbrev pub line_of_refusal : Refusal → List ℕ
 line_of_refusal (Description fault) = description.line_of fault
 line_of_refusal NoDomain = codes "surf: no such domain\n"
 line_of_refusal NotBuilt = codes "surf: description not built\n"
+line_of_refusal (Text fault) = text.line_of fault
 line_of_refusal (Trace fault) = trace.line_of fault
 
 -- the refusal carries a fault of what was read, and not that memory ran out
@@ -42,6 +47,7 @@ abbrev pub IsOfContents : Refusal → Type 0
 IsOfContents (Description fault) = IsMemory fault → ⊥
 IsOfContents NoDomain = Unit {0}
 IsOfContents NotBuilt = Unit {0}
+IsOfContents (Text fault) = text_fault.IsMemory fault → ⊥
 IsOfContents (Trace fault) = trace.place_of fault ≢ None
 
 -- the status of an end

@@ -1,5 +1,5 @@
 -- What a command means: the text that it writes, or how it ends without one.
-use Rattle.std.specs.Prelude.{◌≡◌, ℕ, List, ◌∷◌, length, nat_le, if◌then◌else◌, Option, Some, None}
+use Rattle.std.specs.Prelude.{◌≡◌, ℕ, List, ◌∷◌, length, nat_le, if◌then◌else◌, Option, Some, None, Result, Ok, Err}
 use Rattle.std.specs.Str.Lines.{lines}
 use Rattle.noc_model.specs.Plan.{Plan, domain_named}
 use Rattle.noc_desc.specs.Draft as table
@@ -15,18 +15,22 @@ use Rattle.trace_read.specs.declared.entries.Entry.{Entry}
 use Rattle.trace_read.specs.declared.fault.TraceFault.{TraceFault}
 use Rattle.trace_read.specs.Entries.{entries}
 use Rattle.trace_read.specs.Accepted as trace
+use Rattle.vl_tree.specs.Values.{Design}
+use Rattle.vl_tree.specs.declared.fault.TextFault.{TextFault}
 use Rattle.surf_cli.specs.declared.files.FileKind.{FileKind}
 use Rattle.surf_cli.specs.declared.statuses.End.{End}
 use Rattle.surf_cli.specs.declared.statuses.End.TheVariants.{Good, Usage, Refused, Read, TooLong}
 use Rattle.surf_cli.specs.declared.refusals.Refusal.{Refusal}
-use Rattle.surf_cli.specs.declared.refusals.Refusal.TheVariants.{Description, NoDomain, NotBuilt, Trace}
+use Rattle.surf_cli.specs.declared.refusals.Refusal.TheVariants.{Description, NoDomain, NotBuilt, Text, Trace}
 use Rattle.surf_cli.specs.Files.{NamedFile, limit_of}
 use Rattle.surf_cli.specs.Contents.{Contents, nothing, with_content}
-use Rattle.surf_cli.specs.Jobs.{Job, Schedule, Check, Routes, Simulate, Report, Upgrade, Command}
+use Rattle.surf_cli.specs.Jobs.{Job, Schedule, Check, Routes, Simulate, Report, Upgrade, Replay, Command}
 use Rattle.surf_cli.specs.Schedule.{schedule_text}
 use Rattle.surf_cli.specs.Accepted.{accepted_text}
 use Rattle.surf_cli.specs.Routes.{routes_text}
 use Rattle.surf_cli.specs.Simulate.{is_built, reports_text, report_text}
+use Rattle.surf_cli.specs.TextRead.{judged_text}
+use Rattle.surf_cli.specs.Replay.{replayed_text}
 
 -- what is to be written: these bytes, or a document of version 2 that says this plan
 pub data Work : Type 0 where
@@ -104,6 +108,14 @@ unless_faulty (Some fault) next = refuses (Trace fault)
 abbrev pub with_trace : Plan → List ℕ → (List Entry → Outcome) → Outcome
 with_trace p bytes next = unless_faulty (trace.first_fault p bytes) (next (entries p (lines bytes)))
 
+abbrev pub if_sound : Result Design TextFault → (Design → Outcome) → Outcome
+if_sound (Err fault) next = refuses (Text fault)
+if_sound (Ok d) next = next d
+
+-- what a command goes on to with the design of a text, which is sound and has the plan's ports
+abbrev pub with_text : Plan → List ℕ → (Design → Outcome) → Outcome
+with_text p bytes next = if_sound (judged_text p bytes) next
+
 -- what a job comes to, over what the files hold
 abbrev pub over : Job → Contents → Outcome
 over (Schedule cycles) held = with_plan held.description (λ p. Does (Exactly (schedule_text p cycles)))
@@ -114,6 +126,8 @@ over (Simulate cycles) held =
 over (Report cycles name) held =
     with_plan held.description (λ p. with_domain p name (λ d. with_built p (with_trace p held.trace (λ es. Does (Exactly (report_text p es cycles d))))))
 over Upgrade held = with_plan held.description (λ p. Does (UpgradeOf p))
+over (Replay cycles) held = with_plan held.description (λ p. with_text p held.text (λ d.
+    with_trace p held.trace (λ es. Does (Exactly (replayed_text p d es cycles)))))
 
 -- what a command goes on to with a file, which is absent or holds some bytes
 abbrev pub with_file : FileKind → Option (List ℕ) → (List ℕ → Outcome) → Outcome

@@ -8,6 +8,7 @@ ghost use Rattle.surf_cli.specs.Answers.{text_of, Makes, IsRefused};
 ghost use Rattle.surf_cli.specs.Spoken.{command, job, gathered};
 
 mod check;
+mod replay;
 mod report;
 mod routes;
 mod schedule;
@@ -46,6 +47,11 @@ pub(crate) enum Job<'a> {
     },
     /// A description of version 2 with the same plan.
     Upgrade,
+    /// The reports of so many cycles of a Verilog text.
+    Replay {
+        /// The number of cycles.
+        cycles: u32,
+    },
 }
 
 /// What the words ask for.
@@ -73,6 +79,7 @@ pub(crate) fn command_of(words: &[String]) -> Option<Command<'_>>
         "simulate" => simulate::words(args),
         "report" => report::words(args),
         "upgrade" => upgrade::words(args),
+        "replay" => replay::words(args),
         _ => None,
     }
 }
@@ -90,6 +97,7 @@ fn text_for(alloc: Global, asked: Job<'_>, contents: Contents) -> Result<Text, E
         Job::Simulate { cycles } => simulate::make(alloc, contents, cycles),
         Job::Report { cycles, domain } => report::make(alloc, contents, cycles, domain),
         Job::Upgrade => upgrade::make(alloc, contents),
+        Job::Replay { cycles } => replay::make(alloc, contents, cycles),
     }
 }
 

@@ -12,6 +12,8 @@ use std::alloc::Global;
 pub(crate) struct Contents {
     /// The bytes of the description.
     pub(crate) description: Vec<u8>,
+    /// The bytes of the Verilog text.
+    pub(crate) text: Vec<u8>,
     /// The bytes of the trace.
     pub(crate) trace: Vec<u8>,
 }
@@ -23,6 +25,7 @@ impl Contents {
     {
         Contents {
             description: Vec::new(alloc),
+            text: Vec::new(alloc),
             trace: Vec::new(alloc),
         }
     }
@@ -33,6 +36,7 @@ impl Contents {
     {
         match kind {
             FileKind::Description => self.description = bytes,
+            FileKind::Text => self.text = bytes,
             FileKind::Trace => self.trace = bytes,
         }
         self

@@ -7,6 +7,9 @@ ghost use Rattle.surf_cli.specs.Spoken.{named};
 /// The most bytes that a description may have.
 pub(crate) const DESCRIPTION_LIMIT: u64 = 1_048_576;
 
+/// The most bytes that a Verilog text may have.
+pub(crate) const TEXT_LIMIT: u64 = 134_217_728;
+
 /// The most bytes that a trace may have.
 pub(crate) const TRACE_LIMIT: u64 = 67_108_864;
 
@@ -15,6 +18,8 @@ pub(crate) const TRACE_LIMIT: u64 = 67_108_864;
 pub(crate) enum FileKind {
     /// A description of a network.
     Description,
+    /// A Verilog text.
+    Text,
     /// A trace of injections.
     Trace,
 }
@@ -27,6 +32,7 @@ impl FileKind {
     {
         match self {
             FileKind::Description => DESCRIPTION_LIMIT,
+            FileKind::Text => TEXT_LIMIT,
             FileKind::Trace => TRACE_LIMIT,
         }
     }
@@ -57,4 +63,6 @@ pub(crate) enum NamedFiles<'a> {
     One(NamedFile<'a>),
     /// Two files.
     Two(NamedFile<'a>, NamedFile<'a>),
+    /// Three files.
+    Three(NamedFile<'a>, NamedFile<'a>, NamedFile<'a>),
 }

@@ -1,14 +1,29 @@
 //! Laws of what the commands mean.
 
-ghost use Rattle.std.specs.Prelude.{◌≡◌, ℕ, List};
+ghost use Rattle.std.specs.Prelude.{◌≡◌, ◌↔◌, ℕ, List, Ok, Err};
 ghost use Rattle.noc_model.specs.Plan.{Plan as PlanValue};
 ghost use Rattle.trace_read.specs.declared.entries.Entry.{Entry};
 ghost use Rattle.trace_read.specs.Restrict.{of_domain};
+ghost use Rattle.vl_tree.specs.Values.{Design};
+ghost use Rattle.vl_tree.specs.Spells.{Spells};
+ghost use Rattle.vl_tree.specs.Faults.{IsReadFault};
+ghost use Rattle.vl_tree.specs.declared.fault.TextFault.{TextFault};
 ghost use Rattle.surf_cli.specs.Simulate.{report_text};
+ghost use Rattle.surf_cli.specs.TextRead.{text_read};
 
 /// Reports do not interfere: two traces that agree on a domain, whatever else is in them, give this domain equal
 /// reports.
 pub fn reports_do_not_interfere()
     ensures { (p : PlanValue) (es fs : List Entry) (cycles d : ℕ) → of_domain p d es ≡ of_domain p d fs
         → report_text p es cycles d ≡ report_text p fs cycles d }
+{}
+
+/// What the commands read of a text is the design that its bytes spell.
+pub fn texts_as_spelled()
+    ensures { (bytes : List ℕ) (d : Design) → (text_read bytes ≡ Ok d) ↔ Spells bytes d }
+{}
+
+/// What they refuse of it is its first fault of those that reading finds.
+pub fn texts_as_refused()
+    ensures { (bytes : List ℕ) (fault : TextFault) → (text_read bytes ≡ Err fault) ↔ IsReadFault bytes fault }
 {}

@@ -26,6 +26,8 @@ mod routes;
 mod run;
 mod statuses;
 mod table;
+mod text_judging;
+mod text_line;
 mod turning;
 
 pub use statuses::Status;

@@ -69,5 +69,8 @@ pub(crate) fn read_files<F: Files>(
     match names {
         NamedFiles::One(first) => read_more(alloc, files, &[first], contents),
         NamedFiles::Two(first, second) => read_more(alloc, files, &[first, second], contents),
+        NamedFiles::Three(first, second, third) => {
+            read_more(alloc, files, &[first, second, third], contents)
+        }
     }
 }

@@ -4,9 +4,11 @@ ghost use Rattle.std.specs.Prelude.{◌≡◌};
 ghost use Rattle.surf_cli.specs.Lines.{status_of_refusal, line_of_refusal, Says};
 
 use crate::statuses::{Status, say};
+use crate::text_line::text_fault_line;
 use noc_desc::DescFault;
 use surf_base::Sink;
 use trace_read::TraceFault;
+use vl_tree::TextFault;
 
 /// Why the contents of the files are refused.
 #[derive(Drop)]
@@ -17,6 +19,8 @@ pub(crate) enum Refusal {
     NoDomain,
     /// The network of the description is not simulated yet.
     NotBuilt,
+    /// The text's first fault.
+    Text(TextFault),
     /// The trace's first fault.
     Trace(TraceFault),
 }
@@ -29,6 +33,7 @@ impl Refusal {
         match self {
             Refusal::Description(_) | Refusal::NotBuilt => Status::Description,
             Refusal::NoDomain => Status::Domain,
+            Refusal::Text(_) => Status::Text,
             Refusal::Trace(_) => Status::Trace,
         }
     }
@@ -42,6 +47,7 @@ impl Refusal {
             Refusal::Description(fault) => print_fault(fault, err),
             Refusal::NoDomain => say(err, b"surf: no such domain\n"),
             Refusal::NotBuilt => say(err, b"surf: description not built\n"),
+            Refusal::Text(fault) => print_text_fault(fault, err),
             Refusal::Trace(fault) => print_trace_fault(fault, err),
         }
     }
@@ -54,6 +60,16 @@ fn print_fault<E: Sink>(fault: &DescFault, err: &mut E)
 {
     let mut line = [0; 96];
     let len = desc_check::fault_line(fault, &mut line);
+    say(err, &line[..len]);
+}
+
+/// Writes the line of a text's fault to the error stream.
+fn print_text_fault<E: Sink>(fault: &TextFault, err: &mut E)
+    ensures { Says (line_of_refusal (Refusal.Text fault.now))
+        (E.written err.old) (E.written err.new) (E.faults err.old) (E.faults err.new) }
+{
+    let mut line = [0; 96];
+    let len = text_fault_line(fault, &mut line);
     say(err, &line[..len]);
 }
 

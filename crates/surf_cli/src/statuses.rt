@@ -18,6 +18,8 @@ pub enum Status {
     Description,
     /// The trace has a fault.
     Trace,
+    /// The Verilog text has a fault, or other ports than the plan's.
+    Text,
     /// A file could not be read.
     Read,
     /// The output could not be written.
@@ -40,6 +42,7 @@ impl Status {
             Status::Usage => 2,
             Status::Description => 3,
             Status::Trace => 4,
+            Status::Text => 5,
             Status::Read => 6,
             Status::Write => 7,
             Status::Memory => 8,

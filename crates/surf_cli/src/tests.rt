@@ -1,6 +1,7 @@
 //! Worked rows: the words of a run over files in memory, and its status and bytes.
 
 use super::{Status, surf};
+use std::alloc::{AllocError, Global};
 use std::test::Fail;
 use surf_base::{MemFiles, MemSink};
 
@@ -76,23 +77,18 @@ range = [{tile = 0, first = 0x0, last = 0xfff}, {tile = 1, first = 0x1000, last 
 {tile = 12, first = 0xc000, last = 0xcfff}, {tile = 13, first = 0xd000, last = 0xdfff},\n\
 {tile = 14, first = 0xe000, last = 0xefff}, {tile = 15, first = 0xf000, last = 0xffff}]\n";
 
-/// Runs the words over a description `d` and a trace `t`, and answers the status and what is on the output and the
-/// error stream.
-fn run(
+/// Runs the words over these files, by name, and answers the status and what is on the output and the error stream.
+fn run_over(
     rt: &HostRuntime,
     words: &str,
-    content: Option<&[u8]>,
-    trace: Option<&str>,
+    held: &[(&str, &[u8])],
     file_fails: &[u64],
     sink_fails: &[u64],
 ) -> Result<(Status, String, String), Fail> {
     let alloc = rt.alloc();
     let mut files = MemFiles::new(alloc, 4096, file_fails)?;
-    if let Some(bytes) = content {
-        files.put("d", bytes)?;
-    }
-    if let Some(text) = trace {
-        files.put("t", text.as_bytes())?;
+    for (name, bytes) in held {
+        files.put(name, bytes)?;
     }
     let mut out = MemSink::new(alloc, 65536, 8, sink_fails)?;
     let mut err = MemSink::new(alloc, 4096, 64, &[])?;
@@ -104,6 +100,25 @@ fn run(
     let written = String::from_utf8_lossy(alloc, out.bytes())?;
     let said = String::from_utf8_lossy(alloc, err.bytes())?;
     Ok((status, written, said))
+}
+
+/// Runs the words over a description `d` and a trace `t`.
+fn run(
+    rt: &HostRuntime,
+    words: &str,
+    content: Option<&[u8]>,
+    trace: Option<&str>,
+    file_fails: &[u64],
+    sink_fails: &[u64],
+) -> Result<(Status, String, String), Fail> {
+    let mut held = Vec::new(rt.alloc());
+    if let Some(bytes) = content {
+        held.push(("d", bytes))?;
+    }
+    if let Some(text) = trace {
+        held.push(("t", text.as_bytes()))?;
+    }
+    run_over(rt, words, held.as_slice(), file_fails, sink_fails)
 }
 
 #[test]
@@ -304,6 +319,7 @@ fn statuses_have_their_numbers(rt: HostRuntime) {
         (Status::Usage, 2),
         (Status::Description, 3),
         (Status::Trace, 4),
+        (Status::Text, 5),
         (Status::Read, 6),
         (Status::Write, 7),
         (Status::Memory, 8),
@@ -535,6 +551,228 @@ fn failing_calls_of_a_simulation_give_their_status(rt: HostRuntime) -> Result<()
     assert!(rt; status == Status::Write);
     assert_eq!(rt; out.as_str(), "domain a");
     let (status, out, err) = run(&rt, "simulate d t 6", content, Some(ONE_WORD), &[5], &[])?;
+    assert!(rt; status == Status::Read);
+    assert_eq!(rt; out.as_str(), "");
+    assert_eq!(rt; err.as_str(), "surf: read failed\n");
+    Ok(())
+}
+
+// The ports of a tile's only attachment.
+const PORTS: &str =
+    "(input wire clk, input wire rst, input wire [0:0] ov_0_0, input wire [31:0] oa_0_0,\n\
+input wire [31:0] op_0_0, input wire [0:0] ol_0_0, input wire [0:0] hr_0_0, output wire [0:0] rd_0_0,\n\
+output wire [0:0] dr_0_0, output wire [0:0] ev_0_0, output wire [0:0] eh_0_0, output wire [0:0] et_0_0,\n\
+output wire [31:0] ep_0_0);\n";
+
+const READY: &str = "assign rd_0_0 = 1'd1; ";
+
+const DROPPED: &str = "assign dr_0_0 = s_0; ";
+
+const NOTHING_GOT: &str =
+    "assign ev_0_0 = 1'd0; assign eh_0_0 = 1'd0; assign et_0_0 = 1'd0; assign ep_0_0 = 32'd0;\n\
+always @(posedge clk) if (rst) s_0 <= 1'd0; else s_0 <= ov_0_0;\nendmodule\nmodule noc ";
+
+const JOINS: &str =
+    "router_0 tile_0 (.clk(clk), .rst(rst), .ov_0_0(ov_0_0), .oa_0_0(oa_0_0), .op_0_0(op_0_0),\n\
+.ol_0_0(ol_0_0), .hr_0_0(hr_0_0), .rd_0_0(rd_0_0), .dr_0_0(dr_0_0), .ev_0_0(ev_0_0), .eh_0_0(eh_0_0),\n\
+.et_0_0(et_0_0), .ep_0_0(ep_0_0)); endmodule\n";
+
+const WRONG_WIDTH: &str =
+    "module r_0 (input wire clk, input wire rst, output wire [1:0] q_0);\n  assign q_0 = 3'd0;\nendmodule\n\
+module noc (input wire clk, input wire rst);\nendmodule\n";
+
+const ONE_OUTPUT: &str =
+    "module r_0 (input wire clk, input wire rst, output wire [0:0] q_0); assign q_0 = ";
+
+/// A text with one tile, whose leaf takes each word and drops it, but for these assigns.
+fn one_leaf(alloc: Global, ready: &str, dropped: &str) -> Result<String, AllocError> {
+    let mut text = String::from_str(alloc, "module router_0 ")?;
+    text.push_str(PORTS)?;
+    text.push_str("reg [0:0] s_0; ")?;
+    text.push_str(ready)?;
+    text.push_str(dropped)?;
+    text.push_str(NOTHING_GOT)?;
+    text.push_str(PORTS)?;
+    text.push_str(JOINS)?;
+    Ok(text)
+}
+
+/// Replays a text `v` over a description `d` and a trace `t`.
+fn replay(
+    rt: &HostRuntime,
+    words: &str,
+    content: &str,
+    text: &[u8],
+    trace: &str,
+) -> Result<(Status, String, String), Fail> {
+    let held = [
+        ("d", content.as_bytes()),
+        ("v", text),
+        ("t", trace.as_bytes()),
+    ];
+    run_over(rt, words, &held, &[], &[])
+}
+
+#[test]
+fn a_text_gives_its_reports(rt: HostRuntime) -> Result<(), Fail> {
+    let text = one_leaf(rt.alloc(), READY, DROPPED)?;
+    let rows = [
+        (
+            "replay d v t 6",
+            ONE_WORD,
+            "domain a\n0 0 take 0000002a\n1 0 drop\nend 1 0 1 0\n",
+        ),
+        ("replay d v t 0", ONE_WORD, "domain a\nend 0 0 0 0\n"),
+        (
+            "replay d v t 3",
+            "0 0 a send 10 1 2 3\n",
+            "domain a\n0 0 take 00000001\n1 0 take 00000002\n1 0 drop\n2 0 take 00000003\n2 0 drop\n\
+end 3 0 2 0\n",
+        ),
+    ];
+    for (words, trace, lines) in rows {
+        let (status, out, err) = replay(&rt, words, ONE_TILE, text.as_bytes(), trace)?;
+        assert!(rt; status == Status::Good, "{words}");
+        assert_eq!(rt; out.as_str(), lines, "{words}");
+        assert_eq!(rt; err.as_str(), "", "{words}");
+    }
+    Ok(())
+}
+
+#[test]
+fn refused_texts_say_why(rt: HostRuntime) -> Result<(), Fail> {
+    let alloc = rt.alloc();
+    let dropping = one_leaf(alloc, READY, DROPPED)?;
+    let driven_twice = one_leaf(
+        alloc,
+        "assign rd_0_0 = 1'd1; assign rd_0_0 = 1'd1; ",
+        DROPPED,
+    )?;
+    let goes_through = one_leaf(alloc, READY, "assign dr_0_0 = ov_0_0; ")?;
+    let mut deep = String::from_str(alloc, ONE_OUTPUT)?;
+    for _ in 0..200 {
+        deep.push_str("(~")?;
+    }
+    let mut wide = String::from_str(alloc, ONE_OUTPUT)?;
+    wide.push_str("65'd0;")?;
+    let mut great = String::from_str(alloc, ONE_OUTPUT)?;
+    great.push_str("4'd16;")?;
+    let rows: [(&str, &[u8], &str); 15] = [
+        (
+            ONE_TILE,
+            b"module noc (input wire clk, input wire rst);\nendmodul",
+            "2 at 45",
+        ),
+        (ONE_TILE, b"", "3 at 0"),
+        (
+            ONE_TILE,
+            b"module noc (input wire clk, input wire rst);\nendmodule",
+            "12 at 0",
+        ),
+        (ONE_TILE, WRONG_WIDTH.as_bytes(), "6 at 2"),
+        (ONE_TILE, driven_twice.as_bytes(), "8 at 6"),
+        (ONE_TILE, goes_through.as_bytes(), "9 at 7"),
+        (TWO_TILES, dropping.as_bytes(), "12 at 11"),
+        (RING_OF_FOUR, dropping.as_bytes(), "12 at 0"),
+        (
+            ONE_TILE,
+            b"module noc (input wire clk, input wire rst); /*",
+            "2 at 45",
+        ),
+        (
+            ONE_TILE,
+            b"module noc (input wire clk, input wire rst); endmodule // \0",
+            "1 at 58",
+        ),
+        (
+            ONE_TILE,
+            b"module noc (input wire clk, input wire rst); endmodule x",
+            "2 at 55",
+        ),
+        (
+            ONE_TILE,
+            b"module noc (input wire clk, input wire rst); endmodule endmodule",
+            "3 at 55",
+        ),
+        (ONE_TILE, deep.as_bytes(), "3 at 479"),
+        (ONE_TILE, wide.as_bytes(), "2 at 81"),
+        (ONE_TILE, great.as_bytes(), "2 at 81"),
+    ];
+    for (content, text, fault) in rows {
+        for trace in ["", "0 0 a send"] {
+            let (status, out, err) = replay(&rt, "replay d v t 0", content, text, trace)?;
+            assert!(rt; status == Status::Text, "{fault}");
+            assert_eq!(rt; out.as_str(), "", "{fault}");
+            assert_eq!(rt;
+                err.as_str(),
+                format!(in alloc; "surf: text fault {fault}\n")?.as_str()
+            );
+        }
+    }
+    Ok(())
+}
+
+#[test]
+fn refused_replays_say_why(rt: HostRuntime) -> Result<(), Fail> {
+    let text = one_leaf(rt.alloc(), READY, DROPPED)?;
+    let rows = [
+        (
+            "replay d v t 65537",
+            ONE_TILE,
+            ONE_WORD,
+            Status::Usage,
+            "surf: usage\n",
+        ),
+        (
+            "replay d v t",
+            ONE_TILE,
+            ONE_WORD,
+            Status::Usage,
+            "surf: usage\n",
+        ),
+        (
+            "replay d u t 6",
+            "",
+            ONE_WORD,
+            Status::Read,
+            "surf: read failed\n",
+        ),
+        (
+            "replay d v t 6",
+            "",
+            "0 0 a send",
+            Status::Description,
+            "surf: description fault 3 0 0 0\n",
+        ),
+        (
+            "replay d v t 6",
+            ONE_TILE,
+            "0 0 a send",
+            Status::Trace,
+            "surf: trace fault 1 line 1\n",
+        ),
+    ];
+    for (words, content, trace, status, line) in rows {
+        let got = replay(&rt, words, content, text.as_bytes(), trace)?;
+        assert!(rt; got.0 == status, "{words}: {:?}", got.0);
+        assert_eq!(rt; got.1.as_str(), "", "{words}");
+        assert_eq!(rt; got.2.as_str(), line, "{words}");
+    }
+    Ok(())
+}
+
+#[test]
+fn failing_calls_of_a_replay_give_their_status(rt: HostRuntime) -> Result<(), Fail> {
+    let text = one_leaf(rt.alloc(), READY, DROPPED)?;
+    let held = [
+        ("d", ONE_TILE.as_bytes()),
+        ("v", text.as_bytes()),
+        ("t", ONE_WORD.as_bytes()),
+    ];
+    let (status, out, _) = run_over(&rt, "replay d v t 6", &held, &[], &[2])?;
+    assert!(rt; status == Status::Write);
+    assert_eq!(rt; out.as_str(), "domain a");
+    let (status, out, err) = run_over(&rt, "replay d v t 6", &held, &[5], &[])?;
     assert!(rt; status == Status::Read);
     assert_eq!(rt; out.as_str(), "");
     assert_eq!(rt; err.as_str(), "surf: read failed\n");
