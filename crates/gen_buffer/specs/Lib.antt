@@ -1,0 +1,4 @@
+pub mod Fifo
+pub mod Sizes
+pub mod Buffer
+pub mod Laws
