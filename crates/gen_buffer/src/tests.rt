@@ -7,6 +7,9 @@ use std::test::Fail;
 use vl_tree::{Leaf, LeafItem};
 
 fn leaf(alloc: Global, depth: u32) -> Result<Leaf, AllocError> {
+    if depth == 0 || 16 < depth {
+        return Err(AllocError);
+    }
     let mut work = LeafWork::new(alloc, 0)?;
     let spec = BufferSpec {
         tag: 5,

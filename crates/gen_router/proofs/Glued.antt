@@ -1,0 +1,477 @@
+-- One edge keeps the tie of a domain: each group's conditions come from the other groups' nets and from the tie.
+use Rattle.std.proofs.Common.{◌≡◌, ◌≢◌, ℕ, zero, suc, ◌+◌, ◌-◌, ◌*◌, ◌/◌, ◌%◌, ◌<◌, ◌≤◌, ◌^◌, ◌⊎◌, inl, inr, Bool, true, false, List, [], ◌∷◌, length, Option, refl, sym, ◌∙◌, ap, arith, subst, ◌==◌, ◌&&◌}
+use Rattle.std.specs.Prelude.{map, Some, None, is_some, is_none, nat_lt, if◌then◌else◌, pos, ◌+ℤ◌, ◌-ℤ◌}
+use Rattle.std.proofs.lemmas.Bool.Decides.{nat_tests}
+use Rattle.std.proofs.lemmas.Int.{ints}
+use Rattle.std.proofs.lemmas.Nat.{mul-le, div-mul-add}
+use Rattle.std.proofs.Math.Nat.{mod-eq_of_lt, mul-add-mod_self_right}
+use Rattle.vl_tree.specs.Values.{Expr, net, not, cat}
+use Rattle.vl_model.specs.Meaning.{Widths, Values, value_of, width_of, one_if}
+use Rattle.gen_kit.specs.Families.{in_bits}
+use Rattle.noc_model.specs.declared.Flit.{Flit}
+use Rattle.noc_model.specs.declared.LinkFlit.{LinkFlit}
+use Rattle.noc_model.specs.declared.Stage.{Stage}
+use Rattle.noc_model.specs.declared.Stage.TheVariants.{Idle, Routed, Active}
+use Rattle.noc_model.specs.Plan.{Plan, channels, link_channels, ports, tiles, hosts, out_channels, at_local}
+use Rattle.noc_model.specs.Place.{neighbour, opposite, owner}
+use Rattle.noc_model.specs.Sound.{IsSound}
+use Rattle.noc_model.specs.SoundState.{HasOutput, IsOutput, IsSoundTile}
+use Rattle.noc_model.specs.Tile.{Tile, TileIn}
+use Rattle.noc_model.specs.Step.{takes, is_ready, is_ready_at, leaves, front, is_tail, comes_in, sent, is_on, is_tail_on, tile_step}
+use Rattle.noc_model.proofs.Coords.{positive}
+use Rattle.noc_model.proofs.Ports.{link-dim, linked-port}
+use Rattle.noc_model.proofs.StateKept.{some-channels}
+use Rattle.noc_model.proofs.TileKept.{tile_step-sound}
+use Rattle.gen_kit.specs.Masks.{mask}
+use Rattle.gen_kit.specs.Rotate.{PointsTo}
+use Rattle.gen_router.specs.Places.{stage_at, queue_at, is_active, is_idle, leaves_at, ends_at}
+use Rattle.gen_router.specs.Alloc.{AllocIn, AllocTie, out_count}
+use Rattle.gen_router.specs.Switch.{goes_by, ready_for, ReadyIn, SwitchIn, place_count}
+use Rattle.gen_kit.specs.Families.{row_parts}
+use Rattle.gen_router.specs.Buffers.{BufferSize, BufferTie, is_filled}
+use Rattle.gen_router.specs.Tie.{LeafNames, PortNames, HasLink, HasPort, HasPlace, alloc_size, DomainTie, LeafIn, word_code, flit_code, ejected_code}
+use Rattle.gen_router.specs.Glue.{NetNames, switch_names, switch_size, high, out_high, has_place, filled_bit, able, some_active, DomainRuns, SlotsShown, Borrowed, GlueFits, link_push, pop_of}
+use Rattle.gen_kit.proofs.Sets.{mask-same, mask-and, mask-none, mask-bit}
+use Rattle.gen_kit.proofs.Families.{rows-shown, rows-wide, bit-or}
+use Rattle.gen_router.proofs.Allocated.{alloc-kept}
+use Rattle.gen_router.proofs.Switched.{ready-shown}
+use Rattle.gen_router.proofs.Granted.{leaves-shown, granted-shown, turns-kept, choices-kept}
+use Rattle.gen_router.proofs.Sent.{on-shown, freed-shown}
+use Rattle.gen_router.proofs.Counted.{idle-kept, credit-kept}
+use Rattle.gen_router.proofs.Buffered.{buffer-kept, arrival-pushes, bit-and}
+use Rattle.gen_router.proofs.Sized.{high-is, place_count-is, in_few, out-link, fits-output, some-link-channels}
+use Rattle.gen_router.proofs.Homes.{away-home}
+use Rattle.gen_router.proofs.Steps.{MayCome, comes-room, absent-kept, within-kept, short-kept, away-kept}
+
+-- ---- ports
+
+pub link-there : (p : Plan) (n port m : ℕ) → neighbour p n port ≡ Some m → HasLink p n port
+link-there p n port m e =
+    let some : is_some (neighbour p n port) ≡ true = ap is_some e in
+    let dim = link-dim p n port some in
+    (omega (arith, dim), some)
+
+-- a port with a link is not the local one
+pub port-link : (p : Plan) (n o : ℕ) → HasLink p n o → o ≢ 0
+port-link p n o link e = go (neighbour p n o) refl link.1
+  where
+    go : (m : Option ℕ) → neighbour p n o ≡ m → is_some m ≡ true → ⊥
+    go None is f = cc f
+    go (Some m) is f = linked-port p n o m is e
+
+port-there : (p : Plan) (n d o : ℕ) → o < ports p → HasPort p n d o ⊎ (HasPort p n d o → ⊥)
+port-there p n d zero below = go (hosts p n d) refl
+  where
+    go : (b : Bool) → hosts p n d ≡ b → (hosts p n d ≡ true) ⊎ (hosts p n d ≡ true → ⊥)
+    go true e = inl e
+    go false e = inr (λ f. cc (sym e ∙ f))
+port-there p n d (suc o) below = go (is_some (neighbour p n (suc o))) refl
+  where
+    go : (b : Bool) → is_some (neighbour p n (suc o)) ≡ b → HasLink p n (suc o) ⊎ (HasLink p n (suc o) → ⊥)
+    go true e = inl (below, e)
+    go false e = inr (λ f. cc (sym e ∙ f.1))
+
+output-there : (p : Plan) (n o : ℕ) → IsOutput p n o → o < ports p
+output-there p n o (inl e) = omega (arith, e)
+output-there p n o (inr some) = let dim = link-dim p n o some in omega (arith, dim)
+
+stage-output : (p : Plan) (d n : ℕ) (st : Stage) (o : ℕ) → HasOutput p d n st → goes_by st o ≡ true → IsOutput p n o
+stage-output p d n Idle o h e = absurd (cc e)
+stage-output p d n (Routed to) o h e = absurd (cc e)
+stage-output p d n (Active to w) o h e = let same : to ≡ o = grind (arith, nat_tests, e) in subst (IsOutput p n) same h.0
+
+active-out : (p : Plan) (d n : ℕ) (st : Stage) (o w : ℕ) → HasOutput p d n st → st ≡ Active o w → IsOutput p n o
+active-out p d n st o w h e = (subst (HasOutput p d n) e h).0
+
+active-few : (p : Plan) (d n : ℕ) (st : Stage) (o w : ℕ) → HasOutput p d n st → is_active st o w ≡ true → w < out_channels p d o
+active-few p d n Idle o w h e = absurd (cc e)
+active-few p d n (Routed to) o w h e = absurd (cc e)
+active-few p d n (Active to x) o w h e =
+    let same_o : to ≡ o = grind (arith, nat_tests, e) in
+    let same_w : x ≡ w = grind (arith, nat_tests, e) in
+    subst (λ k. k < out_channels p d o) same_w (subst (λ k. x < out_channels p d k) same_o h.1)
+
+false-by : (b : Bool) → (b ≡ true → ⊥) → b ≡ false
+false-by true never = absurd (never refl)
+false-by false never = refl
+
+not-zero : (c : ℕ) → 2 ^ 1 - 1 - one_if (c == 0) ≡ one_if (nat_lt 0 c)
+not-zero c = go (nat_lt 0 c) refl
+  where
+    go : (b : Bool) → nat_lt 0 c ≡ b → 2 ^ 1 - 1 - one_if (c == 0) ≡ one_if b
+    go true e = let differ : (c == 0) ≡ false = grind (arith, nat_tests, e) in rw differ refl
+    go false e = let same : (c == 0) ≡ true = grind (arith, nat_tests, e) in rw same refl
+
+one-bit : (f : ℕ → Bool) (k : ℕ) → one_if (f k) ≡ mask 1 (λ j. f (k * 1 + j))
+one-bit f k = let e : k * 1 + 0 ≡ k = omega arith in rw e (omega arith)
+
+empty-code : (x : Option Flit) → one_if (ejected_code x == 0) ≡ one_if (is_none x)
+empty-code None = refl
+empty-code (Some f) =
+    let large : 0 < ejected_code (Some f) = omega arith in
+    let differ : (ejected_code (Some f) == 0) ≡ false = grind (arith, nat_tests, large) in
+    rw differ refl
+
+out-few : (p : Plan) (d o : ℕ) → 0 < channels p d → out_channels p d o ≡ out_count (alloc_size p d o)
+out-few p d zero some = refl
+out-few p d (suc o) some = sym (out-link p d (suc o) some (λ e. omega arith))
+
+some-out : (p : Plan) (d o : ℕ) → 0 < channels p d → out_high p d o + 1 ≡ out_count (alloc_size p d o)
+some-out p d zero some = refl
+some-out p d (suc o) some =
+    let e = out-link p d (suc o) some (λ e. omega arith) in
+    let l = some-link-channels p d some in
+    omega (arith, e, l)
+
+row-of : (v port c : ℕ) → c < v → (port * v + c) / v ≡ port
+row-of v port c below = div-mul-add port v c below
+
+channel-of : (v port c : ℕ) → c < v → (port * v + c) % v ≡ c
+channel-of v port c below = mul-add-mod_self_right port v c ∙ mod-eq_of_lt below
+
+-- a place is there or not
+place-there : (p : Plan) (n d port c : ℕ) → port < ports p → has_place p n d port c ≡ true → HasPlace p n d port c
+place-there p n d zero c below e = both (hosts p n d) refl e
+  where
+    both : (b : Bool) → hosts p n d ≡ b → (b && nat_lt c (channels p d)) ≡ true → (hosts p n d ≡ true) × (c < channels p d)
+    both true is f = (is, grind (arith, nat_tests, f))
+    both false is f = absurd (cc f)
+place-there p n d (suc port) c below e = both (is_some (neighbour p n (suc port))) refl e
+  where
+    both : (b : Bool) → is_some (neighbour p n (suc port)) ≡ b → (b && nat_lt c (link_channels p d)) ≡ true → HasPlace p n d (suc port) c
+    both true is f = ((below, is), grind (arith, nat_tests, f))
+    both false is f = absurd (cc f)
+
+place-not : (p : Plan) (n d port c : ℕ) → has_place p n d port c ≡ false → HasPlace p n d port c → ⊥
+place-not p n d zero c e place =
+    let less : nat_lt c (channels p d) ≡ true = (let b = place.1 in grind (arith, nat_tests, b)) in
+    let all : (hosts p n d && nat_lt c (channels p d)) ≡ true = rw (place.0, less) refl in
+    cc (sym e ∙ all)
+place-not p n d (suc port) c e place =
+    let less : nat_lt c (link_channels p d) ≡ true = (let b = place.1 in grind (arith, nat_tests, b)) in
+    let all : (is_some (neighbour p n (suc port)) && nat_lt c (link_channels p d)) ≡ true = rw (place.0.1, less) refl in
+    cc (sym e ∙ all)
+
+filled-length : (code : Flit → ℕ) (fs : List Flit) → 2 ^ 1 - 1 - one_if (length (map code fs) == 0) ≡ one_if (is_filled fs)
+filled-length code [] = refl
+filled-length code (f ∷ fs) = let differ : (length (map code (f ∷ fs)) == 0) ≡ false = grind (arith, nat_tests) in rw differ refl
+
+module _ (p : Plan) (n d : ℕ) (names : LeafNames) (nets : NetNames) (q : PortNames) (base : ℕ → ℕ) (size : BufferSize) (slot_high dest_bits link_flit link_channel : ℕ) (enters : ℕ → Expr)
+    (w : Widths) (v u : Values) (t : ℕ) (s : ℕ → Tile) (i : ℕ → TileIn)
+    (sound : IsSound p) (there : d < length p.domains) (fits : GlueFits p size slot_high link_channel)
+    (here : n < tiles p)
+    (runs : DomainRuns p n d names nets q base size link_flit link_channel enters w v u)
+    (slots : SlotsShown p n d names v (pos t))
+    (more : Borrowed p n d names nets dest_bits enters w v u (pos t) (s d) (i d))
+    (input : LeafIn p n q base dest_bits link_flit link_channel v t s i)
+    (tie : DomainTie p n d names size dest_bits v (pos t) (s d)) where
+  some : 0 < channels p d
+  some = some-channels p d sound there
+
+  -- ---- the inputs
+
+  arrives-by : (port : ℕ) (x : LinkFlit) → (i d).arrives port ≡ Some x → (m : ℕ) × (neighbour p n port ≡ Some m)
+  arrives-by port x e = go (neighbour p n port) refl
+    where
+      go : (o : Option ℕ) → neighbour p n port ≡ o → (m : ℕ) × (neighbour p n port ≡ Some m)
+      go None is = absurd (cc (sym (input.unlinked d port is) ∙ e))
+      go (Some m) is = (m, is)
+
+  may : MayCome p n d (s d) (i d)
+  may = record {
+    home = record {
+      arrives = λ port x e. (let by = arrives-by port x e in ((input.links port by.0 by.1).1.channel d x e).2);
+      unlinked = λ port e. input.unlinked d port e;
+    };
+    linked = λ port x e. (let by = arrives-by port x e in let c = (input.links port by.0 by.1).1.channel d x e in (link-there p n port by.0 by.1, c.0, c.1));
+    nothing = λ e. (input.unhosted d e).0;
+    room = λ o x link e. input.room d o x link e;
+  }
+
+  -- ---- the places that have a flit
+
+  empty-net : (port c : ℕ) → HasPlace p n d port c → (w.net (names.buffer d port c).empty ≡ 1) × (v.net (names.buffer d port c).empty ≡ one_if (v.net (names.buffer d port c).count == 0))
+  empty-net zero c place = let h = (runs.entered c place.0 place.1).now.heads in (h.1.1.1.1.1.1.1.1.0.0, h.1.1.1.1.1.1.1.1.1.0)
+  empty-net (suc port) c place = go (neighbour p n (suc port)) refl place.0.1
+    where
+      go : (o : Option ℕ) → neighbour p n (suc port) ≡ o → is_some o ≡ true → (w.net (names.buffer d (suc port) c).empty ≡ 1) × (v.net (names.buffer d (suc port) c).empty ≡ one_if (v.net (names.buffer d (suc port) c).count == 0))
+      go None e f = absurd (cc f)
+      go (Some m) e f = let h = (runs.linked (suc port) m c e place.1).now.heads in (h.1.1.1.1.1.1.1.1.0.0, h.1.1.1.1.1.1.1.1.1.0)
+
+  filled-wide : (port c : ℕ) → port < ports p → width_of w (filled_bit p n names d port c) ≡ 1
+  filled-wide port c below = go (has_place p n d port c) refl
+    where
+      go : (b : Bool) → has_place p n d port c ≡ b → width_of w (if b then not (net (names.buffer d port c).empty) else in_bits 1 0) ≡ 1
+      go true e = (empty-net port c (place-there p n d port c below e)).0
+      go false e = refl
+
+  filled-value : (port c : ℕ) → port < ports p → value_of w v (filled_bit p n names d port c) ≡ one_if (is_filled ((s d).queue port c))
+  filled-value port c below = go (has_place p n d port c) refl
+    where
+      go : (b : Bool) → has_place p n d port c ≡ b → value_of w v (if b then not (net (names.buffer d port c).empty) else in_bits 1 0) ≡ one_if (is_filled ((s d).queue port c))
+      go true e =
+          let place = place-there p n d port c below e in
+          let at = empty-net port c place in
+          rw (at.0, at.1, (tie.buffers port c place).1.count) (filled-length (word_code p n dest_bits) ((s d).queue port c))
+      go false e = rw ((tie.absent port c (place-not p n d port c e)).0) refl
+
+  filled-is : v.net (nets.filled d) ≡ mask (high p d + 1) (λ place. is_filled (queue_at p d (s d) place))
+  filled-is =
+      runs.filled.nets.1.0
+      ∙ rows-shown (link_channels p d) w v (λ port. cat (row_parts (filled_bit p n names d port) (link_channels p d - 1))) set (ports p - 1)
+      (λ port le. rows-wide 1 w (filled_bit p n names d port) (link_channels p d - 1) (λ c few. filled-wide port c (omega (arith, le))) ∙ wide)
+      (λ port le. rows-shown 1 w v (filled_bit p n names d port) (λ c. set (port * link_channels p d + c)) (link_channels p d - 1) (λ c few. filled-wide port c (omega (arith, le)))
+      (λ c few. filled-value port c (omega (arith, le)) ∙ ap one_if (sym (at port c (omega (arith, few, full)))) ∙ one-bit (λ k. set (port * link_channels p d + k)) c)
+      ∙ ap (λ m. mask m (λ c. set (port * link_channels p d + c))) wide)
+      ∙ ap (λ m. mask m set) all
+    where
+      set : ℕ → Bool
+      set place = is_filled (queue_at p d (s d) place)
+
+      full : 0 < link_channels p d
+      full = some-link-channels p d some
+
+      wide : (link_channels p d - 1 + 1) * 1 ≡ link_channels p d
+      wide = omega (arith, full)
+
+      all : (ports p - 1 + 1) * link_channels p d ≡ high p d + 1
+      all = let one : ports p - 1 + 1 ≡ ports p = omega arith in rw one (sym (high-is p d some))
+
+      at : (port c : ℕ) → c < link_channels p d → set (port * link_channels p d + c) ≡ is_filled ((s d).queue port c)
+      at port c few = ap (λ k. is_filled ((s d).queue k ((port * link_channels p d + c) % link_channels p d))) (row-of (link_channels p d) port c few) ∙ ap (λ k. is_filled ((s d).queue port k)) (channel-of (link_channels p d) port c few)
+
+  -- ---- the switch
+
+  next : Tile
+  next = tile_step p d n (pos t) (s d) (i d)
+
+  not-there : (o : ℕ) → o < ports p → (HasPort p n d o → ⊥) → (port c : ℕ) → goes_by ((s d).stage port c) o ≡ false
+  not-there zero below absent port c = (tie.home (false-by (hosts p n d) absent) port c).0
+  not-there (suc o) below absent port c = false-by (goes_by ((s d).stage port c) (suc o)) (λ e. go (stage-output p d n ((s d).stage port c) (suc o) (tie.sound.stages port c) e))
+    where
+      go : IsOutput p n (suc o) → ⊥
+      go (inl e) = omega arith
+      go (inr e) = absent (below, e)
+
+  ables : (o : ℕ) → HasPort p n d o → (k : ℕ) → k ≤ out_high p d o → value_of w v (able p n names q size d o k) ≡ one_if (takes p d n (pos t) (s d) (i d) o k)
+  unfolding takes
+  ables zero port k le =
+      rw (tie.ejected port, (input.offers d port).1, empty-code (s d).ejected) (bit-or (is_none (s d).ejected) (i d).hears)
+  ables (suc o) port k le =
+      let at = some-out p d (suc o) some in
+      let is = out-link p d (suc o) some (λ e. omega arith) in
+      let few : k < link_channels p d = omega (arith, at, is, le) in
+      rw (slots.leaving (suc o) port, tie.credits (suc o) k port few, not-zero ((s d).credits (suc o) k)) (bit-and (owner p n (suc o) (pos t) == d) (nat_lt 0 ((s d).credits (suc o) k)))
+
+  ready-in : (o : ℕ) → HasPort p n d o → ReadyIn p d n o (nets.filled d) (names.alloc d o).active (able p n names q size d o) (high p d) (out_high p d o) w v (pos t) (s d) (i d)
+  ready-in o port = record {
+    flits = filled-is;
+    channels = λ k le. (let at = some-out p d o some in (tie.outputs o port).active k (omega (arith, at, le)));
+    ables = ables o port;
+    few = λ place k e.
+        (let below = active-few p d n (stage_at p d (s d) place) o k (tie.sound.stages (place / link_channels p d) (place % link_channels p d)) e in
+        let at = some-out p d o some in let is = out-few p d o some in
+        omega (arith, below, at, is));
+  }
+
+  switch-in : SwitchIn p d n (switch_names names nets d) (switch_size p d) v (pos t) (s d) (i d)
+  switch-in = record {
+    port_count = omega arith;
+    channel_count = let l = some-link-channels p d some in omega arith;
+    readies = λ o le. ready o (omega (arith, le)) (port-there p n d o (omega (arith, le)));
+    turns = λ port le. tie.turns port (omega (arith, le));
+    choices = λ o le. tie.switches o (omega (arith, le));
+    outputs = λ port c o x e. (let below = output-there p n o (active-out p d n ((s d).stage port c) o x (tie.sound.stages port c) e) in omega (arith, below));
+    beyond = λ port c le. (let gone = tie.absent port c (λ h. (let below = h.1 in omega (arith, le, below))) in ap (is_ready_at p d n (pos t) (s d) (i d) ((s d).queue port c)) gone.1);
+    few = in_few p d;
+  }
+    where
+      wide : place_count (switch_size p d) ≡ high p d + 1
+      wide = place_count-is p d some
+
+      ready : (o : ℕ) → o < ports p → HasPort p n d o ⊎ (HasPort p n d o → ⊥) → v.net (nets.ready d o) ≡ mask (place_count (switch_size p d)) (ready_for p d n (pos t) (s d) (i d) o)
+      ready o below (inl port) =
+          (runs.ready o port).nets.1.0
+          ∙ ready-shown p d n o (nets.filled d) (names.alloc d o).active (able p n names q size d o) (high p d) (out_high p d o) w v (pos t) (s d) (i d) (ready-in o port)
+          ∙ ap (λ m. mask m (ready_for p d n (pos t) (s d) (i d) o)) (sym wide)
+      ready o below (inr absent) =
+          (runs.unready o below absent).nets.1.0
+          ∙ sym (mask-none (place_count (switch_size p d)) (ready_for p d n (pos t) (s d) (i d) o) (λ place b. ap (λ x. x && is_ready p d n (pos t) (s d) (i d) (place / link_channels p d) (place % link_channels p d)) (not-there o below absent (place / link_channels p d) (place % link_channels p d))))
+
+  leaves-is : v.net (nets.leaves d) ≡ mask (high p d + 1) (leaves_at p d n (pos t) (s d) (i d))
+  leaves-is =
+      leaves-shown p d n (switch_names names nets d) (switch_size p d) w v (pos t) (s d) (i d) runs.switch.now switch-in
+      ∙ ap (λ m. mask m (leaves_at p d n (pos t) (s d) (i d))) (place_count-is p d some)
+
+  ends-is : v.net (nets.ends d) ≡ mask (high p d + 1) (ends_at p d n (pos t) (s d) (i d))
+  ends-is = runs.ends.nets.1.0 ∙ rw (leaves-is, more.tails) (mask-and (high p d + 1) (leaves_at p d n (pos t) (s d) (i d)) (λ place. is_tail (front (queue_at p d (s d) place))))
+
+  -- ---- allocation
+
+  freed-is : (o : ℕ) → HasPort p n d o → v.net (names.alloc d o).freed ≡ mask (out_count (alloc_size p d o)) (is_tail_on (sent p d n (pos t) (s d) (i d) o))
+  freed-is o port =
+      (runs.freed o port).nets.1.0
+      ∙ rows-shown 1 w v (some_active p names d o (nets.ends d)) (is_tail_on (sent p d n (pos t) (s d) (i d) o)) (out_high p d o) (λ k le. refl)
+      (λ k le. bit k le ∙ one-bit (is_tail_on (sent p d n (pos t) (s d) (i d) o)) k)
+      ∙ ap (λ m. mask m (is_tail_on (sent p d n (pos t) (s d) (i d) o))) count
+    where
+      count : (out_high p d o + 1) * 1 ≡ out_count (alloc_size p d o)
+      count = let at = some-out p d o some in omega (arith, at)
+
+      bit : (k : ℕ) → k ≤ out_high p d o → value_of w v (some_active p names d o (nets.ends d) k) ≡ one_if (is_tail_on (sent p d n (pos t) (s d) (i d) o) k)
+      bit k le =
+          let at = some-out p d o some in
+          rw ((tie.outputs o port).active k (omega (arith, at, le)), ends-is, mask-and (high p d + 1) (λ place. is_active (stage_at p d (s d) place) o k) (ends_at p d n (pos t) (s d) (i d)), high-is p d some)
+          (freed-shown p d n o k (pos t) (s d) (i d) (in_few p d))
+
+  alloc-in : (o : ℕ) → HasPort p n d o → AllocIn p d n o (names.alloc d o) (alloc_size p d o) w v (pos t) (s d) (i d)
+  alloc-in o port = record {
+    led = more.led o port;
+    ends = ap v.net (runs.one_ends o) ∙ ends-is;
+    ends_width = ap w.net (runs.one_ends o) ∙ runs.ends.nets.0.0;
+    freed = freed-is o port;
+    freed_width = (runs.freed o port).nets.0.0 ∙ some-out p d o some;
+  }
+
+  outputs-kept : (o : ℕ) → HasPort p n d o → AllocTie p d o (names.alloc d o) (alloc_size p d o) u next
+  unfolding next
+  outputs-kept o port =
+      alloc-kept p d n o (names.alloc d o) (alloc_size p d o) (fits-output p d n o some) w v u (runs.alloc o port).now (runs.alloc o port).later (runs.alloc o port).steps
+      (pos t) (s d) (i d) (alloc-in o port) (tie.outputs o port)
+
+  -- ---- pointers, idle places, credits, pulses
+
+  switches-kept : (o : ℕ) → o < ports p → PointsTo (names.switch d o) (ports p - 1) u (next.switch o)
+  unfolding next
+  switches-kept o below =
+      choices-kept p d n (switch_names names nets d) (switch_size p d) w v u runs.switch.now runs.switch.later runs.switch.steps (pos t) (s d) (i d) switch-in o (omega arith)
+
+  ports-turns-kept : (port : ℕ) → port < ports p → PointsTo (names.turn d port) (link_channels p d - 1) u (next.turn port)
+  unfolding next
+  ports-turns-kept port below =
+      turns-kept p d n (switch_names names nets d) (switch_size p d) w v u runs.switch.now runs.switch.later runs.switch.steps (pos t) (s d) (i d) switch-in port (omega arith)
+
+  places-idle : u.net (names.idle d) ≡ mask (ports p * link_channels p d) (λ place. is_idle (stage_at p d next place))
+  unfolding next
+  places-idle =
+      idle-kept p d n (names.idle d) (nets.filled d) (nets.ends d) (high p d) w v u runs.idle.now runs.idle.later runs.idle.steps (pos t) (s d) (i d)
+      (record {
+        idles = tie.idle ∙ ap (λ m. mask m (λ place. is_idle (stage_at p d (s d) place))) (sym (high-is p d some));
+        flits = filled-is;
+        flits_width = runs.filled.nets.0.0;
+        last_flits = ends-is;
+      })
+      ∙ ap (λ m. mask m (λ place. is_idle (stage_at p d (tile_step p d n (pos t) (s d) (i d)) place))) (high-is p d some)
+
+  on-is : (o x : ℕ) → HasLink p n o → x < link_channels p d → v.net (nets.on d o x) ≡ one_if (is_on (sent p d n (pos t) (s d) (i d) o) x)
+  on-is zero x link few = absurd (port-link p n 0 link refl)
+  on-is (suc o) x link few =
+      (runs.on (suc o) x link few).nets.1.0
+      ∙ rw ((tie.outputs (suc o) link).active x (rw (out-link p d (suc o) some (λ e. omega arith)) few), leaves-is, mask-and (high p d + 1) (λ place. is_active (stage_at p d (s d) place) (suc o) x) (leaves_at p d n (pos t) (s d) (i d)), high-is p d some)
+      (on-shown p d n (suc o) x (pos t) (s d) (i d) (in_few p d))
+
+  credits-kept : (o x : ℕ) → HasLink p n o → x < link_channels p d → u.net (names.credits d o x) ≡ next.credits o x
+  unfolding next
+  credits-kept o x link few =
+      credit-kept p d n o x (names.credits d o x) _ _ size.lh (port-link p n o link) fits.counts w v u (runs.credits o x link few).now (runs.credits o x link few).later (runs.credits o x link few).steps (pos t) (s d) (i d)
+      (record { stands = tie.credits o x link few; pulses = input.returns d o x there link few; goes = on-is o x link few; within = tie.within o x link; room = input.room d o x link })
+
+  pulses-kept : (port : ℕ) → HasLink p n port → u.net (names.pulse d port) ≡ mask (link_channels p d) (next.pulse port)
+  unfolding next tile_step
+  pulses-kept port link =
+      (runs.pulses port link).steps.moves.0
+      ∙ granted-shown p d n (switch_names names nets d) (switch_size p d) w v (pos t) (s d) (i d) runs.switch.now switch-in port (let below = link.0 in omega (arith, below))
+      ∙ ap (λ m. mask m (leaves p d n (pos t) (s d) (i d) port)) wide
+      ∙ mask-same (link_channels p d) _ _ (λ c below. outside port (port-link p n port link) c)
+    where
+      wide : link_channels p d - 1 + 1 ≡ link_channels p d
+      wide = let l = some-link-channels p d some in omega (arith, l)
+
+      outside : (port : ℕ) → port ≢ 0 → (c : ℕ) → leaves p d n (pos t) (s d) (i d) port c ≡ at_local port false (leaves p d n (pos t) (s d) (i d) port c)
+      outside zero link_here c = absurd (link_here refl)
+      outside (suc k) link_here c = refl
+
+  -- ---- buffers
+
+  pop-is : (port c : ℕ) → HasPlace p n d port c → v.net (nets.leaves d) / 2 ^ (port * link_channels p d + c) % 2 ≡ one_if (leaves p d n (pos t) (s d) (i d) port c)
+  pop-is port c place =
+      rw leaves-is (mask-bit (high p d + 1) (port * link_channels p d + c) (leaves_at p d n (pos t) (s d) (i d)) inside)
+      ∙ ap one_if (ap (λ k. leaves p d n (pos t) (s d) (i d) k ((port * link_channels p d + c) % link_channels p d)) (row-of (link_channels p d) port c few) ∙ ap (leaves p d n (pos t) (s d) (i d) port) (channel-of (link_channels p d) port c few))
+    where
+      few : c < link_channels p d
+      few = let a = place.1 in let b = in_few p d port in omega (arith, a, b)
+
+      below : (port : ℕ) → HasPort p n d port → port < ports p
+      below zero h = omega arith
+      below (suc k) h = h.0
+
+      inside : port * link_channels p d + c < high p d + 1
+      inside =
+          let at = below port place.0 in
+          let more : (port + 1) * link_channels p d ≤ ports p * link_channels p d = mul-le (port + 1) (link_channels p d) (ports p) (link_channels p d) (omega (arith, at)) (omega arith) in
+          let parts : (port + 1) * link_channels p d ≡ port * link_channels p d + link_channels p d = grind arith in
+          let all = high-is p d some in
+          omega (arith, few, more, parts, all)
+
+  room : (port c : ℕ) → is_filled (comes_in p d (s d) (i d) port c) ≡ true → length ((s d).queue port c) < p.buffer
+  room port c e = comes-room p n d (s d) (i d) port c may e
+
+  queue-kept : (port c : ℕ) → HasPlace p n d port c → BufferTie (word_code p n dest_bits) (names.buffer d port c) size u (next.queue port c)
+  unfolding next
+  queue-kept zero c place =
+      let run = runs.entered c place.0 place.1 in
+      buffer-kept p d n 0 c (word_code p n dest_bits) (names.buffer d 0 c) size (enters c) (pop_of p nets d 0 c) fits.pointers fits.counts w v u run.now run.later run.steps (pos t) (s d) (i d)
+      (record {
+        push = run.now.nets.0 ∙ more.pushes c place.0 place.1;
+        word = λ f e. more.words 0 c f place e;
+        pop = run.now.nets.1.0 ∙ pop-is 0 c place;
+        short = tie.short 0 c;
+        room = room 0 c;
+      })
+      (tie.buffers 0 c place)
+  queue-kept (suc port) c place = go (neighbour p n (suc port)) refl place.0.1
+    where
+      go : (o : Option ℕ) → neighbour p n (suc port) ≡ o → is_some o ≡ true → BufferTie (word_code p n dest_bits) (names.buffer d (suc port) c) size u ((tile_step p d n (pos t) (s d) (i d)).queue (suc port) c)
+      go None e f = absurd (cc f)
+      go (Some m) e f =
+          let run = runs.linked (suc port) m c e place.1 in
+          let link = input.links (suc port) m e in
+          buffer-kept p d n (suc port) c (word_code p n dest_bits) (names.buffer d (suc port) c) size (link_push p names q link_flit link_channel d (suc port) m c) (pop_of p nets d (suc port) c) fits.pointers fits.counts w v u run.now run.later run.steps (pos t) (s d) (i d)
+          (record {
+            push = run.now.nets.0
+                ∙ arrival-pushes (flit_code dest_bits) link_flit link_channel _ (q.link_in (suc port)) w v (owner p m (opposite (suc port)) (pos t -ℤ pos p.stages) == d) link.0 ((i d).arrives (suc port)) c fits.some_channel
+                (record { owned = slots.arriving (suc port) m e; shown = link.1.shown; its_own = link.1.its_own d; fits = link.1.fits });
+            word = λ x is. more.words (suc port) c x place is;
+            pop = run.now.nets.1.0 ∙ pop-is (suc port) c place;
+            short = tie.short (suc port) c;
+            room = room (suc port) c;
+          })
+          (tie.buffers (suc port) c place)
+
+  -- ---- the domain
+
+  pub domain-kept : DomainTie p n d names size dest_bits u (pos (suc t)) (tile_step p d n (pos t) (s d) (i d))
+  unfolding next
+  domain-kept = record {
+    idle = places-idle;
+    outputs = outputs-kept;
+    switches = switches-kept;
+    credits = credits-kept;
+    turns = ports-turns-kept;
+    pulses = pulses-kept;
+    buffers = queue-kept;
+    packet = more.packet;
+    current = more.current;
+    dropped = more.dropped;
+    ejected = more.ejected;
+    absent = λ port c none. absent-kept p n d (pos t) (s d) (i d) port c may tie.sound.current none (tie.absent port c none);
+    sound = after;
+    within = λ o x link. within-kept p n d (pos t) (s d) (i d) o x may link (tie.within o x link);
+    short = λ port c. short-kept p n d (pos t) (pos (suc t)) (s d) (i d) port c may after (tie.short port c);
+    home = λ e port c. away-kept p n d (pos t) (s d) (i d) port c (λ f h. away-home p d n f.dest sound here h e) (tie.sound.queued port c) (tie.home e port c);
+  }
+    where
+      after : IsSoundTile p d n (pos (suc t)) (tile_step p d n (pos t) (s d) (i d))
+      after =
+          let same : pos t +ℤ pos 1 ≡ pos (suc t) = omega (arith, ints) in
+          subst (λ k. IsSoundTile p d n k (tile_step p d n (pos t) (s d) (i d))) same (tile_step-sound p d n (pos t) (s d) (i d) (positive p.dims sound.sides) tie.sound may.home)

@@ -1,0 +1,294 @@
+-- One domain of a leaf: its groups over one set of names, and what the tie of the next cycle takes from outside them.
+use Rattle.std.specs.Prelude.{◌≡◌, ℕ, zero, suc, ◌+◌, ◌-◌, ◌*◌, ◌<◌, ◌≤◌, ◌^◌, Bool, true, List, [], ◌∷◌, length, Option, Some, None, is_some, nat_lt, if◌then◌else◌, ◌&&◌, ◌==◌, ℤ, pos, ◌-ℤ◌}
+use Rattle.vl_tree.specs.declared.tree.Op.TheVariants.{And, Or}
+use Rattle.vl_tree.specs.Values.{Name, Expr, net, bit, not, two, cat, wire, reg, assign, clocked}
+use Rattle.vl_model.specs.Meaning.{Widths, Values, value_of, one_if}
+use Rattle.gen_kit.specs.Families.{in_bits}
+use Rattle.vl_model.specs.Parts.{AllReset}
+use Rattle.gen_buffer.specs.Fifo.{fifo_items}
+use Rattle.noc_model.specs.declared.Flit.{Flit}
+use Rattle.noc_model.specs.declared.LinkFlit.{LinkFlit}
+use Rattle.noc_model.specs.Plan.{Plan, channels, link_channels, ports, in_channels, at_local, hosts}
+use Rattle.noc_model.specs.Place.{neighbour, opposite, owner}
+use Rattle.noc_model.specs.Tile.{Tile, TileIn, start_tile}
+use Rattle.noc_model.specs.Step.{is_tail, front, comes_in, sent, shifted, tile_step}
+use Rattle.gen_kit.specs.Masks.{mask}
+use Rattle.gen_kit.specs.Groups.{Group, HoldsIn, StepsIn}
+use Rattle.gen_kit.specs.Rotate.{is_empty}
+use Rattle.gen_router.specs.Places.{stage_at, queue_at, is_led}
+use Rattle.gen_router.specs.Alloc.{alloc_group, out_count}
+use Rattle.gen_router.specs.Switch.{SwitchNames, SwitchSize, switch_group, ready_expr}
+use Rattle.gen_kit.specs.Families.{row_parts}
+use Rattle.gen_router.specs.Buffers.{BufferSize, buffer_group, arrival_push, is_filled, link_code}
+use Rattle.gen_router.specs.Counts.{idle_group, credit_group}
+use Rattle.gen_router.specs.Slots.{leaving_slot, arriving_slot, slot_group}
+use Rattle.gen_router.specs.Links.{LinkNames, link_group}
+use Rattle.gen_router.specs.Tie.{LeafNames, PortNames, HasLink, HasPort, HasPlace, alloc_size, word_code, flit_code, ejected_code, PacketTie}
+
+-- the nets of a domain that are no registers
+pub record NetNames : Type 0 where
+  -- by domain
+  pub filled : ℕ → Name
+  pub tails : ℕ → Name
+  pub ends : ℕ → Name
+  pub all : ℕ → Name
+  pub picked : ℕ → Name
+  pub leaves : ℕ → Name
+  -- by domain and output
+  pub ready : ℕ → ℕ → Name
+  pub asks : ℕ → ℕ → Name
+  pub word : ℕ → ℕ → Name
+  -- by domain and input port
+  pub granted : ℕ → ℕ → Name
+  -- by domain, output and channel
+  pub on : ℕ → ℕ → ℕ → Name
+
+-- the nets of the domain's switch
+abbrev pub switch_names : LeafNames → NetNames → ℕ → SwitchNames
+switch_names names nets d = record {
+  ready = nets.ready d;
+  asks = nets.asks d;
+  choice = names.switch d;
+  turn = names.turn d;
+  granted = nets.granted d;
+  all = nets.all d;
+  picked = nets.picked d;
+  leaves = nets.leaves d;
+}
+
+-- the sizes of the domain's switch
+abbrev pub switch_size : Plan → ℕ → SwitchSize
+switch_size p d = record { last = ports p - 1; channel = link_channels p d - 1 }
+
+-- the names of the link by an output
+abbrev pub link_names : Plan → ℕ → LeafNames → NetNames → ℕ → LinkNames
+link_names p n names nets o = record {
+  owns = (names.slot (leaving_slot p n o)).owns;
+  word = λ e. nets.word e o;
+  row = names.row o;
+}
+
+-- one less than the places of a vector
+abbrev pub high : Plan → ℕ → ℕ
+high p d = ports p * link_channels p d - 1
+
+-- one less than the channels of an output
+abbrev pub out_high : Plan → ℕ → ℕ → ℕ
+out_high p d o = out_count (alloc_size p d o) - 1
+
+-- ---- groups of one or two nets, between the larger ones
+
+-- a net and what it is assigned
+abbrev pub net_group : ℕ → Name → Expr → Group
+net_group h n e = record { heads = []; nets = wire h n ∷ assign n e ∷ []; moves = [] }
+
+-- whether the domain has the place there
+abbrev pub has_place : Plan → ℕ → ℕ → ℕ → ℕ → Bool
+has_place p n d port c = at_local port (hosts p n d) (is_some (neighbour p n port)) && nat_lt c (in_channels p d port)
+
+-- whether the place has a flit: a place that is not there is a constant 0
+abbrev pub filled_bit : Plan → ℕ → LeafNames → ℕ → ℕ → ℕ → Expr
+filled_bit p n names d port c = if has_place p n d port c then not (net (names.buffer d port c).empty) else in_bits 1 0
+
+-- the places that have a flit
+abbrev pub filled_group : Plan → ℕ → LeafNames → NetNames → ℕ → Group
+filled_group p n names nets d =
+    net_group (high p d) (nets.filled d) (cat (row_parts (λ port. cat (row_parts (filled_bit p n names d port)
+    (link_channels p d - 1))) (ports p - 1)))
+
+-- the places that the last flit of a packet leaves
+abbrev pub ends_group : Plan → NetNames → ℕ → Group
+ends_group p nets d = net_group (high p d) (nets.ends d) (two And (net (nets.leaves d)) (net (nets.tails d)))
+
+-- whether the output takes a flit for channel k
+abbrev pub able : Plan → ℕ → LeafNames → PortNames → BufferSize → ℕ → ℕ → ℕ → Expr
+able p n names q size d o k =
+    at_local o
+    (two Or (is_empty 34 (net (names.ejected d))) (net (q.hears d)))
+    (two And (net ((names.slot (leaving_slot p n o)).owns d)) (not (is_empty size.lh (net (names.credits d o k)))))
+
+-- the places that may send by the output
+abbrev pub ready_group : Plan → ℕ → LeafNames → NetNames → PortNames → BufferSize → ℕ → ℕ → Group
+ready_group p n names nets q size d o =
+    net_group (high p d) (nets.ready d o) (ready_expr (nets.filled d) (names.alloc d o).active
+    (able p n names q size d o) (high p d) (out_high p d o))
+
+-- an output that is not there has no ready place
+abbrev pub unready_group : Plan → NetNames → ℕ → ℕ → Group
+unready_group p nets d o = net_group (high p d) (nets.ready d o) (in_bits (high p d + 1) 0)
+
+-- whether a place that is active on channel k is among these
+abbrev pub some_active : Plan → LeafNames → ℕ → ℕ → Name → ℕ → Expr
+some_active p names d o these k = not (is_empty (high p d) (two And (net ((names.alloc d o).active k)) (net these)))
+
+-- whether a flit goes by channel k of the output
+abbrev pub on_group : Plan → LeafNames → NetNames → ℕ → ℕ → ℕ → Group
+on_group p names nets d o k = net_group 0 (nets.on d o k) (some_active p names d o (nets.leaves d) k)
+
+-- the channels of the output that the last flit of a packet goes by
+abbrev pub freed_group : Plan → LeafNames → NetNames → ℕ → ℕ → Group
+freed_group p names nets d o = net_group (out_high p d o) (names.alloc d o).freed (cat (row_parts
+    (some_active p names d o (nets.ends d)) (out_high p d o)))
+
+-- the credit pulses of an input port: the channels that a flit leaves
+abbrev pub pulse_group : Plan → LeafNames → NetNames → ℕ → ℕ → Group
+pulse_group p names nets d port = record {
+  heads = reg (link_channels p d - 1) (names.pulse d port) ∷ [];
+  nets = [];
+  moves = clocked (names.pulse d port) (record { width = link_channels p d - 1 + 1; value = 0 }) (net
+      (nets.granted d port)) ∷ [];
+}
+
+-- whether a word that arrives is pushed into the buffer
+abbrev pub link_push : Plan → LeafNames → PortNames → ℕ → ℕ → ℕ → ℕ → ℕ → ℕ → Expr
+link_push p names q link_flit link_channel d port m c =
+    arrival_push ((names.slot (arriving_slot p m (opposite port))).owns d) (q.link_in port) link_flit link_channel c
+
+-- whether a flit leaves the buffer
+abbrev pub pop_of : Plan → NetNames → ℕ → ℕ → ℕ → Expr
+pop_of p nets d port c = bit (nets.leaves d) (port * link_channels p d + c)
+
+-- ---- one edge
+
+-- a group's items hold in both cycles, and its registers move
+pub record Moves (g : Group) (w : Widths) (v u : Values) : Type 0 where
+  pub now : HoldsIn g w v
+  pub later : HoldsIn g w u
+  pub steps : StepsIn g w v u
+
+-- the group at this place of the list
+abbrev pub at_or : List Group → ℕ → Group → Group
+at_or [] k g = g
+at_or (x ∷ xs) zero g = x
+at_or (x ∷ xs) (suc k) g = at_or xs k g
+
+-- all groups of one domain. enters k says, in one bit, that a flit enters channel k of the local port
+pub record DomainRuns (p : Plan) (n d : ℕ) (names : LeafNames) (nets : NetNames) (q : PortNames) (base : ℕ
+    → ℕ) (size : BufferSize) (link_flit link_channel : ℕ) (enters : ℕ → Expr) (w : Widths) (v u : Values) : Type 0 where
+  pub alloc : (o : ℕ) → HasPort p n d o → Moves (alloc_group p d n o (names.alloc d o) (alloc_size p d o)) w v u
+  pub one_ends : (o : ℕ) → (names.alloc d o).ends ≡ nets.ends d
+  pub switch : Moves (switch_group (switch_names names nets d) (switch_size p d)) w v u
+  pub idle : Moves (idle_group (names.idle d) (nets.filled d) (nets.ends d) (high p d)) w v u
+  pub filled : HoldsIn (filled_group p n names nets d) w v
+  pub ends : HoldsIn (ends_group p nets d) w v
+  pub ready : (o : ℕ) → HasPort p n d o → HoldsIn (ready_group p n names nets q size d o) w v
+  pub unready : (o : ℕ) → o < ports p → (HasPort p n d o → ⊥) → HoldsIn (unready_group p nets d o) w v
+  pub on : (o x : ℕ) → HasLink p n o → x < link_channels p d → HoldsIn (on_group p names nets d o x) w v
+  pub freed : (o : ℕ) → HasPort p n d o → HoldsIn (freed_group p names nets d o) w v
+  pub credits : (o x : ℕ) → HasLink p n o → x < link_channels p d
+      → Moves (credit_group (names.credits d o x) (bit (q.credit_in o (base d + x)) (q.credit_bit (base d + x)))
+      (net (nets.on d o x)) size.lh p.buffer) w v u
+  pub pulses : (port : ℕ) → HasLink p n port → Moves (pulse_group p names nets d port) w v u
+  pub linked : (port m c : ℕ) → neighbour p n port ≡ Some m → c < link_channels p d
+      → Moves (buffer_group (names.buffer d port c) size (link_push p names q link_flit link_channel d port m c)
+      (pop_of p nets d port c)) w v u
+  pub entered : (c : ℕ) → hosts p n d ≡ true → c < channels p d
+      → Moves (buffer_group (names.buffer d 0 c) size (enters c) (pop_of p nets d 0 c)) w v u
+
+-- what the slot counters' nets show
+pub record SlotsShown (p : Plan) (n d : ℕ) (names : LeafNames) (v : Values) (t : ℤ) : Type 0 where
+  pub leaving : (o : ℕ) → HasLink p n o → v.net ((names.slot (leaving_slot p n o)).owns d) ≡ one_if (owner p n o t == d)
+  pub arriving : (port m : ℕ) → neighbour p n port ≡ Some m → v.net ((names.slot (arriving_slot p m
+      (opposite port))).owns d) ≡ one_if (owner p m (opposite port) (t -ℤ pos p.stages) == d)
+
+-- what groups show that are not here yet: routing, the words to store, the attachment and ejection
+pub record Borrowed (p : Plan) (n d : ℕ) (names : LeafNames) (nets : NetNames) (dest_bits : ℕ) (enters : ℕ
+    → Expr) (w : Widths) (v u : Values) (t : ℤ) (s : Tile) (i : TileIn) : Type 0 where
+  -- routing
+  pub tails : v.net (nets.tails d) ≡ mask (high p d + 1) (λ place. is_tail (front (queue_at p d s place)))
+  pub led : (o : ℕ) → HasPort p n d o → v.net (names.alloc d o).led ≡ mask (high p d + 1) (λ place. is_led p n
+      (queue_at p d s place) (stage_at p d s place) o)
+  -- what is stored
+  pub pushes : (c : ℕ) → hosts p n d ≡ true → c < channels p d
+      → value_of w v (enters c) ≡ one_if (is_filled (comes_in p d s i 0 c))
+  pub words : (port c : ℕ) (f : Flit) → HasPlace p n d port c → comes_in p d s i port c ≡ f ∷ []
+      → v.net (names.buffer d port c).word ≡ word_code p n dest_bits f
+  -- the attachment and the ejection place after the edge
+  pub packet : hosts p n d ≡ true → PacketTie (names.passing d) (names.dropping d) (names.dest d) u
+      (tile_step p d n t s i).packet
+  pub current : hosts p n d ≡ true → u.net (names.current d) ≡ (tile_step p d n t s i).current
+  pub dropped : hosts p n d ≡ true → u.net (names.dropped d) ≡ one_if (tile_step p d n t s i).dropped
+  pub ejected : hosts p n d ≡ true → u.net (names.ejected d) ≡ ejected_code (tile_step p d n t s i).ejected
+
+-- what the plan and the sizes must be
+pub record GlueFits (p : Plan) (size : BufferSize) (slot_high link_channel : ℕ) : Type 0 where
+  pub slots : length p.slots ≤ 2 ^ (slot_high + 1)
+  pub pointers : p.buffer ≤ 2 ^ (size.bh + 1)
+  pub counts : p.buffer < 2 ^ (size.lh + 1)
+  pub some_channel : 1 ≤ link_channel
+
+-- ---- the whole leaf
+
+-- all groups of a leaf. link_channel + link_flit is one less than the bits of a link's word
+pub record LeafRuns (p : Plan) (n : ℕ) (names : LeafNames) (nets : NetNames) (q : PortNames) (base : ℕ
+    → ℕ) (size : BufferSize) (slot_high link_flit link_channel : ℕ) (enters : ℕ → ℕ
+    → Expr) (w : Widths) (v u : Values) : Type 0 where
+  pub leaving : (o : ℕ) → HasLink p n o → Moves (slot_group (names.slot (leaving_slot p n o)) slot_high p.slots
+      (length p.domains) (leaving_slot p n o)) w v u
+  pub arriving : (port m : ℕ) → neighbour p n port ≡ Some m
+      → Moves (slot_group (names.slot (arriving_slot p m (opposite port))) slot_high p.slots (length p.domains)
+      (arriving_slot p m (opposite port))) w v u
+  pub rows : (o : ℕ) → HasLink p n o → Moves (link_group (link_names p n names nets o) (link_channel + link_flit)
+      (length p.domains) (p.stages - 1)) w v u
+  pub domains : (d : ℕ) → d < length p.domains → DomainRuns p n d names nets q base size link_flit link_channel
+      (enters d) w v u
+
+-- what groups show that are not here yet
+pub record LeafBorrowed (p : Plan) (n : ℕ) (names : LeafNames) (nets : NetNames)
+    (dest_bits link_flit link_channel : ℕ) (enters : ℕ → ℕ → Expr) (w : Widths) (v u : Values) (t : ℕ) (s : ℕ
+    → Tile) (i : ℕ → TileIn) : Type 0 where
+  pub domains : (d : ℕ) → d < length p.domains → Borrowed p n d names nets dest_bits (enters d) w v u (pos t) (s d)
+      (i d)
+  -- flits and link words
+  pub words : (d o : ℕ) → d < length p.domains → HasLink p n o
+      → v.net (nets.word d o) ≡ link_code (flit_code dest_bits) link_flit link_channel (sent p d n (pos t) (s d)
+      (i d) o)
+
+-- the rows after a shift: what the owner sends enters
+abbrev pub next_shared : Plan → ℕ → ℕ → (ℕ → Tile) → (ℕ → TileIn) → (ℕ → ℕ → Option LinkFlit) → ℕ → ℕ → Option LinkFlit
+next_shared p n t s i shared o = shifted (sent p (owner p n o (pos t)) n (pos t) (s (owner p n o (pos t))) (i
+    (owner p n o (pos t))) o) (shared o)
+
+-- ---- runs
+
+-- a tile's parts in cycle t, from the start, where i t d comes in for domain d in cycle t
+abbrev pub state_at : Plan → ℕ → (ℕ → ℕ → TileIn) → ℕ → ℕ → Tile
+state_at p n i zero d = start_tile p
+state_at p n i (suc t) d = tile_step p d n (pos t) (state_at p n i t d) (i t d)
+
+-- the rows of the leaving links in cycle t
+abbrev pub rows_at : Plan → ℕ → (ℕ → ℕ → TileIn) → ℕ → ℕ → ℕ → Option LinkFlit
+rows_at p n i zero o j = None
+rows_at p n i (suc t) o j = next_shared p n t (state_at p n i t) (i t) (rows_at p n i t) o j
+
+-- ---- reset
+
+-- the registers of a domain's groups have their reset constants, and those of groups that are not here yet are the
+-- start's
+pub record DomainStarts (p : Plan) (n d : ℕ) (names : LeafNames) (nets : NetNames) (q : PortNames) (base : ℕ
+    → ℕ) (size : BufferSize) (v : Values) : Type 0 where
+  pub alloc : (o : ℕ) → HasPort p n d o → AllReset v (alloc_group p d n o (names.alloc d o) (alloc_size p d o)).moves
+  pub switch : AllReset v (switch_group (switch_names names nets d) (switch_size p d)).moves
+  pub idle : AllReset v (idle_group (names.idle d) (nets.filled d) (nets.ends d) (high p d)).moves
+  pub credits : (o x : ℕ) → HasLink p n o → x < link_channels p d
+      → AllReset v (credit_group (names.credits d o x) (bit (q.credit_in o (base d + x)) (q.credit_bit
+      (base d + x))) (net (nets.on d o x)) size.lh p.buffer).moves
+  pub pulses : (port : ℕ) → HasLink p n port → AllReset v (pulse_group p names nets d port).moves
+  pub buffers : (port c : ℕ) → HasPlace p n d port c → AllReset v (fifo_items
+      (names.buffer d port c) size.bh size.lh size.wh)
+  pub packet : hosts p n d ≡ true → (v.net (names.passing d) ≡ 0) × (v.net (names.dropping d) ≡ 0)
+  pub current : hosts p n d ≡ true → v.net (names.current d) ≡ 0
+  pub dropped : hosts p n d ≡ true → v.net (names.dropped d) ≡ 0
+  pub ejected : hosts p n d ≡ true → v.net (names.ejected d) ≡ 0
+
+-- the items of all groups hold at reset
+pub record LeafStarts (p : Plan) (n : ℕ) (names : LeafNames) (nets : NetNames) (q : PortNames) (base : ℕ
+    → ℕ) (size : BufferSize) (slot_high link_flit link_channel : ℕ) (v : Values) : Type 0 where
+  pub leaving : (o : ℕ) → HasLink p n o → AllReset v (slot_group (names.slot (leaving_slot p n o)) slot_high p.slots
+      (length p.domains) (leaving_slot p n o)).moves
+  pub arriving : (port m : ℕ) → neighbour p n port ≡ Some m
+      → AllReset v (slot_group (names.slot (arriving_slot p m (opposite port))) slot_high p.slots (length p.domains)
+      (arriving_slot p m (opposite port))).moves
+  pub rows : (o : ℕ) → HasLink p n o → AllReset v (link_group (link_names p n names nets o)
+      (link_channel + link_flit) (length p.domains) (p.stages - 1)).moves
+  pub domains : (d : ℕ) → d < length p.domains → DomainStarts p n d names nets q base size v

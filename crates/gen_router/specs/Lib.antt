@@ -1,0 +1,12 @@
+pub mod Places
+pub mod Alloc
+pub mod Slots
+pub mod Buffers
+pub mod Tie
+pub mod Tags
+pub mod Switch
+pub mod Links
+pub mod Counts
+pub mod Fits
+pub mod Glue
+pub mod Laws
