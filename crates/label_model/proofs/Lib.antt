@@ -1,0 +1,10 @@
+pub mod Bits
+pub mod Exprs
+pub mod Edges
+pub mod Runs
+pub mod Rows
+pub mod Below
+pub mod Least
+pub mod Verdicts
+pub mod LawfulRow
+pub mod First

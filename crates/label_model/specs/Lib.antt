@@ -1,0 +1,6 @@
+pub mod Labels
+pub mod Lawful
+pub mod Phase
+pub mod Rounds
+pub mod Verdict
+pub mod Laws
