@@ -8,3 +8,6 @@ pub mod Least
 pub mod Verdicts
 pub mod LawfulRow
 pub mod First
+pub mod Driving
+pub mod Labelling
+pub mod Existence

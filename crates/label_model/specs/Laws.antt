@@ -2,12 +2,13 @@
 use Rattle.std.specs.Prelude.{◌≡◌, ℕ, ◌+◌, ◌%◌, ◌<◌, true, Some, None}
 use Rattle.std.specs.List.{AllByRecursion}
 use Rattle.vl_tree.specs.Values.{Name, Design}
-use Rattle.vl_model.specs.Lines.{top_lines, is_net}
+use Rattle.vl_model.specs.Lines.{leaf_lines, top_lines, is_net, is_register}
 use Rattle.vl_model.specs.Rules.{IsSound, is_kind}
 use Rattle.vl_model.specs.Leaf.{leaf_widths}
 use Rattle.vl_model.specs.Whole.{EachInstance, top_widths}
-use Rattle.label_model.specs.Labels.{IsBelow}
+use Rattle.label_model.specs.Labels.{IsBelow, Labels}
 use Rattle.label_model.specs.Lawful.{LabelNets, AreLabels, IsCarried, IsLawful, IsLeast, IsKeptBelow, AreClean, IsClean, Isolates}
+use Rattle.label_model.specs.Phase.{phase_labels}
 use Rattle.label_model.specs.Verdict.{Leak, IsFirstLeak, IsVerdict}
 
 -- A sound design whose outputs are clean under some lawful labelling isolates every domain
@@ -19,6 +20,14 @@ CleanIsolates = (d : Design) → IsSound d → (owner : Name → ℕ) (L : ℕ) 
 abbrev pub LeastIsolates : Type 0
 LeastIsolates = (d : Design) → IsSound d → (owner : Name → ℕ) (L : ℕ) → 0 < L → IsClean d owner L
     → (e : ℕ) → Isolates d owner e
+
+-- In a sound design there are labels of all nets for any labels of registers and memories
+abbrev pub LabelsExist : Type 0
+LabelsExist = (d : Design) → IsSound d → (owner : Name → ℕ) (inside : Name → Labels)
+    → AreLabels d owner (phase_labels d owner inside)
+    × EachInstance d (λ leaf k joins. ((n : Name) → is_kind is_register (leaf_lines leaf) n ≡ true
+    → ((phase_labels d owner inside).inside k).net n ≡ (inside k).net n)
+    × (((phase_labels d owner inside).inside k).word ≡ (inside k).word))
 
 -- In a phase the labels of all nets rise with those of registers and memories
 abbrev pub NetsRise : Type 0

@@ -3,16 +3,14 @@
 use Rattle.std.specs.Prelude.{ℕ, false, List, [], ◌∷◌, Option, Some, None, if◌then◌else◌, bytes_eq, find}
 use Rattle.std.specs.Int.{bit_at}
 use Rattle.vl_tree.specs.declared.tree.Join.{Join}
-use Rattle.vl_tree.specs.declared.tree.TopItem.{TopItem}
-use Rattle.vl_tree.specs.declared.tree.TopItem.TheVariants.{Wire, Instance}
 use Rattle.vl_tree.specs.Values.{Name, Item, wire, reg, mem, assign, clocked, store, Leaf, Design}
 use Rattle.vl_model.specs.Meaning.{Widths, width_of}
-use Rattle.vl_model.specs.Lines.{leaf_named, port_named}
-use Rattle.vl_model.specs.Rules.{join_drives}
+use Rattle.vl_model.specs.Lines.{port_named}
 use Rattle.vl_model.specs.Leaf.{leaf_widths}
 use Rattle.vl_model.specs.Settle.{is_input_port}
 use Rattle.label_model.specs.Labels.{none, only, either, Label, known, from, sources, known_as, join, all_sources, Labels, label_of}
 use Rattle.label_model.specs.Lawful.{LabelNets}
+use Rattle.label_model.specs.Driven.{driven_by, of_net, by_instance}
 
 -- the labels with others for one net
 abbrev pub put_net : Labels → Name → (ℕ → Label) → Labels
@@ -34,42 +32,22 @@ labelled w l (mem h n last ∷ is) = labelled w l is
 labelled w l (clocked n k e ∷ is) = labelled w l is
 labelled w l (store c n i e ∷ is) = labelled w l is
 
--- ---- the nets of the top
+-- ---- all nets
 
--- the labels of the port that the join has, or else others
-abbrev pub port_labels : Option Join → Labels → (ℕ → Label) → ℕ → Label
-port_labels None l y = y
-port_labels (Some j) l y = l.net j.port
-
--- the labels that an instance gives net n of the top, or else others
-abbrev pub output_labels : (Name → Labels) → Name → List Join → Option Leaf → Name → (ℕ → Label) → ℕ → Label
-output_labels inside i joins None n y = y
-output_labels inside i joins (Some l) n y =
-    port_labels (find (join_drives l n) joins) (labelled (leaf_widths l) (inside i) l.items) y
-
--- the labels of net n of the top: those of the output port that drives it, and else y
-abbrev pub driven_labels : List Leaf → (Name → Labels) → List TopItem → Name → (ℕ → Label) → ℕ → Label
-driven_labels leaves inside [] n y = y
-driven_labels leaves inside (Wire h m ∷ is) n y = driven_labels leaves inside is n y
-driven_labels leaves inside (Instance l i joins ∷ is) n y =
-    output_labels inside i joins (leaf_named leaves l) n (driven_labels leaves inside is n y)
+-- what an output port of an instance has before the inputs are known: it does not depend on them
+abbrev pub output_labels : (Name → Labels) → Leaf → Name → Name → ℕ → Label
+output_labels inside l i port = (labelled (leaf_widths l) (inside i) l.items).net port
 
 -- the labels of net n of the top: what no instance drives is an input, from its own domain
 abbrev pub top_labels : Design → (Name → ℕ) → (Name → Labels) → Name → ℕ → Label
-top_labels d owner inside n = driven_labels d.leaves inside d.top.items n (λ i. from (only (owner n)))
-
--- ---- the nets inside
-
--- the labels of the net that the join has, or else others
-abbrev pub joined_labels : Option Join → (Name → ℕ → Label) → (ℕ → Label) → ℕ → Label
-joined_labels None top y = y
-joined_labels (Some j) top y = top j.net
+top_labels d owner inside n =
+    driven_by d.leaves (output_labels inside) d.top.items n (λ i. from (only (owner n)))
 
 -- the labels inside, with those of the joined nets at the input ports
 abbrev pub fed_labels : Leaf → List Join → (Name → ℕ → Label) → Labels → Labels
 fed_labels l joins top v = record {
   net = λ n. if is_input_port (port_named l.ports n) then
-      joined_labels (find (λ (j : Join). bytes_eq n j.port) joins) top (v.net n) else v.net n;
+      of_net (find (λ (j : Join). bytes_eq n j.port) joins) top (v.net n) else v.net n;
   word = v.word;
 }
 
@@ -77,15 +55,6 @@ fed_labels l joins top v = record {
 abbrev pub instance_labels : Option Leaf → List Join → (Name → ℕ → Label) → Labels → Labels
 instance_labels None joins top v = v
 instance_labels (Some l) joins top v = labelled (leaf_widths l) (fed_labels l joins top v) l.items
-
--- what is inside, by the instance's name: f of its leaf, its name and its joins, and other labels where no instance has
--- the name
-abbrev pub by_instance : List Leaf → List TopItem → (Option Leaf → Name → List Join → Labels) → (Name → Labels) → Name
-    → Labels
-by_instance leaves [] f other n = other n
-by_instance leaves (Wire h m ∷ is) f other n = by_instance leaves is f other n
-by_instance leaves (Instance l i joins ∷ is) f other n =
-    if bytes_eq n i then f (leaf_named leaves l) n joins else by_instance leaves is f other n
 
 -- the labels of all nets, from those of registers and memories
 unfoldable pub phase_labels : Design → (Name → ℕ) → (Name → Labels) → LabelNets

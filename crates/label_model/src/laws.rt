@@ -1,10 +1,15 @@
 //! Laws over the definitions.
-ghost use Rattle.label_model.specs.Laws.{CleanIsolates, LeastIsolates, NetsRise, CarriesBelow, NoLeakIsClean, LeakIsFirst};
+ghost use Rattle.label_model.specs.Laws.{CleanIsolates, LeastIsolates, LabelsExist, NetsRise, CarriesBelow, NoLeakIsClean, LeakIsFirst};
 
 /// A sound design whose outputs are clean isolates every domain.
 pub fn clean_isolates()
     ensures lawful { CleanIsolates }
     ensures least { LeastIsolates }
+{}
+
+/// In a sound design there are labels of all nets for any labels of registers and memories.
+pub fn labels_exist()
+    ensures { LabelsExist }
 {}
 
 /// In a phase the labels of all nets rise with those of registers and memories.
