@@ -1,0 +1,13 @@
+pub mod Bits
+pub mod Exprs
+pub mod Edges
+pub mod Runs
+pub mod Rows
+pub mod Below
+pub mod Least
+pub mod Verdicts
+pub mod LawfulRow
+pub mod First
+pub mod Driving
+pub mod Labelling
+pub mod Existence
