@@ -35,8 +35,8 @@ filled-get (suc n) (suc k) x y e = filled-get n k x y e
 
 -- ---- the network of two tiles
 
-pub two-lanes : (p : Plan) → p ≡ two_tiles → (d : ℕ) → d < length p.domains → (1 < ports p) × (0 < link_channels p d)
-two-lanes p e d there =
+pub two-channels : (p : Plan) → p ≡ two_tiles → (d : ℕ) → d < length p.domains → (1 < ports p) × (0 < link_channels p d)
+two-channels p e d there =
     let P : Plan → Type 0 = λ q. d < length q.domains → (1 < ports q) × (0 < link_channels q d) in
     subst P (sym e) (go d) there
   where

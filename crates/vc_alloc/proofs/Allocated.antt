@@ -172,8 +172,8 @@ module _ (x x0 x1 y : Allocator) (stages u v : List (List Stage)) (p : Plan) (d 
   same-pointer : (o : ℕ) → pointer_at x1 d o ≡ pointer_at x d o
   same-pointer o = ap (λ (w : Allocator). pointer_at w d o) knows ∙ ap (λ (w : Allocator). pointer_at w d o) forgot
 
-  same-lanes : link_channels_at x1 d ≡ link_channels p d
-  same-lanes = ap (λ (w : Allocator). link_channels_at w d) knows ∙ ap (λ (w : Allocator). link_channels_at w d) forgot ∙ made.link
+  same-channels : link_channels_at x1 d ≡ link_channels p d
+  same-channels = ap (λ (w : Allocator). link_channels_at w d) knows ∙ ap (λ (w : Allocator). link_channels_at w d) forgot ∙ made.link
 
   there-too : (o : ℕ) → o < ports p → o < length x1.best
   there-too o there = let e = outputs in omega (arith, e, there)
@@ -192,7 +192,7 @@ module _ (x x0 x1 y : Allocator) (stages u v : List (List Stage)) (p : Plan) (d 
       → holder_at y d o c ≡ (if is_place (taken_channel p d x.tile s o) c then winner p d x.tile s o else holder_at x d o c)
   holders-are s shows o c there below =
       let inside = there-too o there in
-      have.held o c inside (let e = same-lanes in omega (arith, e, below))
+      have.held o c inside (let e = same-channels in omega (arith, e, below))
       ∙ below-done o (length x1.best) (held_after (best_at x1 o) c (holder_at x1 d o c)) (holder_at x1 d o c) inside
       ∙ ap (λ b. held_after b c (holder_at x1 d o c)) (best-is s shows o there)
       ∙ holder-is (free_at p d x.tile s o) (winner p d x.tile s o) c (holder_at x1 d o c)

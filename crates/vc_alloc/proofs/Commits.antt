@@ -61,8 +61,8 @@ module _ (x y : Allocator) (u w : List (List Stage)) (d o : ℕ) (there : o < le
   pub best-now : best_at y o ≡ best_at x o
   best-now = have.best o ∙ below-own o None (best_at x o)
 
-  lanes-now : link_channels_at y d ≡ link_channels_at x d
-  lanes-now = ap (λ (v : Allocator). link_channels_at v d) have.only.rest
+  channels-now : link_channels_at y d ≡ link_channels_at x d
+  channels-now = ap (λ (v : Allocator). link_channels_at v d) have.only.rest
 
   nothing : best_at x o ≡ None → HaveCommitted x y u w d (o + 1)
   nothing none = record {
@@ -109,13 +109,13 @@ module _ (x y : Allocator) (u w : List (List Stage)) (d o : ℕ) (there : o < le
     of = have.same o b some
 
     channel : b.to < link_channels_at x d
-    channel = let e = lanes-now in let c = of.1 in omega (arith, e, c)
+    channel = let e = channels-now in let c = of.1 in omega (arith, e, c)
 
     place_there : b.place < length x.best * link_channels_at x d
     place_there =
         let P : ℕ → Type 0 = λ n. b.place < length x.best * n in
         let Q : ℕ → Type 0 = λ n. b.place < n * link_channels_at y d in
-        subst P lanes-now (subst Q have.only.outputs of.0)
+        subst P channels-now (subst Q have.only.outputs of.0)
 
     holders_there : d < length y.holders
     holders_there = let a = have.only.holders.domains in let e = whole.holders in omega (arith, a, e, domain)
@@ -133,7 +133,7 @@ module _ (x y : Allocator) (u w : List (List Stage)) (d o : ℕ) (there : o < le
         let a = have.only.holders.places in
         let e = whole.spots d domain in
         let P : ℕ → Type 0 = λ n. k * n + c < length (lane y.holders d) in
-        subst P (sym lanes-now) (omega (arith, a, e, most, turn))
+        subst P (sym channels-now) (omega (arith, a, e, most, turn))
 
     stages_there : d < length w
     stages_there = let a = have.stages.domains in omega (arith, a, next_there)
@@ -157,7 +157,7 @@ module _ (x y : Allocator) (u w : List (List Stage)) (d o : ℕ) (there : o < le
 
     spot-apart : (k c : ℕ) → c < link_channels_at x d → spot y d k c ≡ spot y d o b.to → (k ≡ o) × (c ≡ b.to)
     spot-apart k c below e =
-        let low : c < link_channels_at y d = let a = lanes-now in omega (arith, a, below) in (
+        let low : c < link_channels_at y d = let a = channels-now in omega (arith, a, below) in (
           sym (div-mul-add k (link_channels_at y d) c low) ∙ ap (λ n. n / link_channels_at y d) e ∙ div-mul-add o (link_channels_at y d) b.to of.1,
           sym (mod-mul-add k (link_channels_at y d) c low) ∙ ap (λ n. n % link_channels_at y d) e ∙ mod-mul-add o (link_channels_at y d) b.to of.1,
         )

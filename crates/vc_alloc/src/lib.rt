@@ -262,7 +262,8 @@ impl VcAlloc {
         requires inputs { length (lane stages.now d) ≡ input_count plan.now d }
         requires outs { (k : ℕ) → GoesBelow (ports plan.now) (stage_at stages.now d k) }
         requires quiet { (o : ℕ) → best_at self.old o ≡ None }
-        ensures best { (s : Tile) (o : ℕ) → Shows self.old stages.now plan.now d s → o < ports plan.now → best_at self.new o
+        ensures best { (s : Tile) (o : ℕ) → Shows self.old stages.now plan.now d s → o < ports plan.now
+            → best_at self.new o
             ≡ winner_with (free_at plan.now d self.old.tile s o) (winner plan.now d self.old.tile s o) }
         ensures rest { self.new ≡ record self.old { best = self.new.best } }
         ensures outputs { length self.new.best ≡ length self.old.best }

@@ -4,7 +4,7 @@ use Rattle.noc_model.specs.declared.Stage.TheVariants.{Active}
 use Rattle.noc_model.specs.Plan.{ports}
 use Rattle.noc_model.specs.Inputs.{input_count}
 use Rattle.wave_sched.proofs.Standing.{wheel_ports-is}
-use Rattle.slot_switch.proofs.Filled.{filled-is, filled-places, filled-lane, filled-get, two-lanes, two-routed, two-domains}
+use Rattle.slot_switch.proofs.Filled.{filled-is, filled-places, filled-lane, filled-get, two-channels, two-routed, two-domains}
 use Rattle.slot_switch.proofs.tests.the_owner_of_the_slot_is_granted.Goals as goal
 
 pub step-requires-clause-wheel : goal.step-requires-clause-wheel
@@ -36,7 +36,7 @@ step-requires-clause-routed g c = λ d there k o w at.
     let is = filled-is _ (input_count p) (length p.domains) c.deref.result.now c.in_ok-stages.stages c.in_ok-stages.ensures (c.deref.ensures.value ∙ c.in_ok-inputs.ensures.value) in
     let same = filled-get (input_count p d) k (Active 1 0) (Active o w)
     (sym (ap (λ l. slice_get l k) (filled-lane _ (input_count p) (length p.domains) c.in_ok-stages.stages d is there)) ∙ at) in
-    two-routed p d o w (two-lanes p c.in_ok-plan.ensures d there) same
+    two-routed p d o w (two-channels p c.in_ok-plan.ensures d there) same
 
 pub at-requires-clause-lane : goal.at-requires-clause-lane
 at-requires-clause-lane g c =
