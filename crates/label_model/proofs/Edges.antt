@@ -102,11 +102,11 @@ ready-leaf l plain s = record {
 
 -- ---- the item that moves a register or a memory
 
-abbrev ClockedHas : (Name → Type 0) → Item → Type 0
+abbrev pub ClockedHas : (Name → Type 0) → Item → Type 0
 ClockedHas P (clocked n k e) = P n
 ClockedHas P _ = Unit {0}
 
-abbrev StoredHas : (Name → Type 0) → Item → Type 0
+abbrev pub StoredHas : (Name → Type 0) → Item → Type 0
 StoredHas P (store c n i e) = P n
 StoredHas P _ = Unit {0}
 
@@ -117,7 +117,7 @@ here P n m rest p more h = go (bytes_eq n m) refl h
     go true same h = subst P (sym (one-name n m same)) p
     go false other h = more h
 
-clocked-has : (P : Name → Type 0) (is : List Item) → AllByRecursion (ClockedHas P) is → (n : Name) → is_clocked is n ≡ true → P n
+pub clocked-has : (P : Name → Type 0) (is : List Item) → AllByRecursion (ClockedHas P) is → (n : Name) → is_clocked is n ≡ true → P n
 clocked-has P [] a n h = absurd (false≢true h)
 clocked-has P (clocked m k e ∷ is) a n h = here P n m (is_clocked is n) a.0 (clocked-has P is a.1 n) h
 clocked-has P (wire x m ∷ is) a n h = clocked-has P is a.1 n h
@@ -126,7 +126,7 @@ clocked-has P (mem x m last ∷ is) a n h = clocked-has P is a.1 n h
 clocked-has P (assign m e ∷ is) a n h = clocked-has P is a.1 n h
 clocked-has P (store c m i e ∷ is) a n h = clocked-has P is a.1 n h
 
-stored-has : (P : Name → Type 0) (is : List Item) → AllByRecursion (StoredHas P) is → (n : Name) → is_stored is n ≡ true → P n
+pub stored-has : (P : Name → Type 0) (is : List Item) → AllByRecursion (StoredHas P) is → (n : Name) → is_stored is n ≡ true → P n
 stored-has P [] a n h = absurd (false≢true h)
 stored-has P (store c m i e ∷ is) a n h = here P n m (is_stored is n) a.0 (stored-has P is a.1 n) h
 stored-has P (wire x m ∷ is) a n h = stored-has P is a.1 n h
@@ -140,7 +140,7 @@ all-four : {A : Type 0} (P Q R S T : A → Type 0) → ((x : A) → P x → Q x 
 all-four P Q R S T f [] p q r s = tt
 all-four P Q R S T f (x ∷ xs) p q r s = (f x p.0 q.0 r.0 s.0, all-four P Q R S T f xs p.1 q.1 r.1 s.1)
 
-all-of : {A : Type 0} (P : A → Type 0) → ((x : A) → P x) → (xs : List A) → AllByRecursion P xs
+pub all-of : {A : Type 0} (P : A → Type 0) → ((x : A) → P x) → (xs : List A) → AllByRecursion P xs
 all-of P f [] = tt
 all-of P f (x ∷ xs) = (f x, all-of P f xs)
 

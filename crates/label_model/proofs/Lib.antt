@@ -11,3 +11,5 @@ pub mod First
 pub mod Driving
 pub mod Labelling
 pub mod Existence
+pub mod Handing
+pub mod Stable

@@ -70,17 +70,17 @@ pub record IsLawful (d : Design) (owner : Name → ℕ) (L : ℕ) (labels : ℕ 
 
 -- ---- the least
 
--- at each bit of a register and of a memory
-abbrev pub IsKeptBelow : Design → LabelNets → LabelNets → Type 0
+-- at each bit of a register and of a memory, by the instance's name
+abbrev pub IsKeptBelow : Design → (Name → Labels) → (Name → Labels) → Type 0
 IsKeptBelow d a b = EachInstance d (λ leaf n joins.
     ((m : Name) → is_kind is_register (leaf_lines leaf) m ≡ true → (i : ℕ) → i < (leaf_widths leaf).net m
-    → IsBelow ((a.inside n).net m i) ((b.inside n).net m i))
+    → IsBelow ((a n).net m i) ((b n).net m i))
     × ((m : Name) → is_kind is_memory (leaf_lines leaf) m ≡ true → (i : ℕ) → i < (leaf_widths leaf).word m
-    → IsBelow ((a.inside n).word m i) ((b.inside n).word m i)))
+    → IsBelow ((a n).word m i) ((b n).word m i)))
 
 -- in each phase
 abbrev pub IsBelowAll : Design → ℕ → (ℕ → LabelNets) → (ℕ → LabelNets) → Type 0
-IsBelowAll d L a b = (f : ℕ) → f < L → IsKeptBelow d (a f) (b f)
+IsBelowAll d L a b = (f : ℕ) → f < L → IsKeptBelow d (a f).inside (b f).inside
 
 -- a lawful labelling that is below every other
 pub record IsLeast (d : Design) (owner : Name → ℕ) (L : ℕ) (labels : ℕ → LabelNets) : Type 0 where

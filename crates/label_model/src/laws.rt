@@ -1,5 +1,5 @@
 //! Laws over the definitions.
-ghost use Rattle.label_model.specs.Laws.{CleanIsolates, LeastIsolates, LabelsExist, NetsRise, CarriesBelow, NoLeakIsClean, LeakIsFirst};
+ghost use Rattle.label_model.specs.Laws.{CleanIsolates, LeastIsolates, LabelsExist, NetsRise, CarriesBelow, KeptIsLawful, FirstIsBelow, NextIsBelow, StableIsLeast, NoLeakIsClean, LeakIsFirst};
 
 /// A sound design whose outputs are clean isolates every domain.
 pub fn clean_isolates()
@@ -20,6 +20,19 @@ pub fn nets_rise()
 /// What is below a lawful labelling in one phase hands over what is below it in the next.
 pub fn carries_below()
     ensures { CarriesBelow }
+{}
+
+/// Registers and memories by phase that are above reset and above what each phase hands over are lawful; and reset and
+/// what is handed over stay below every lawful labelling.
+pub fn kept_is_lawful()
+    ensures lawful { KeptIsLawful }
+    ensures first { FirstIsBelow }
+    ensures next { NextIsBelow }
+{}
+
+/// Rounds that raise nothing more give the least lawful labelling.
+pub fn stable_is_least()
+    ensures { StableIsLeast }
 {}
 
 /// A verdict without a leak says that the design is clean.
