@@ -57,7 +57,7 @@ next_claim leaves fs Waiting = if has_front fs then Sent else Waiting
 next_claim leaves fs Sent = Open
 next_claim leaves fs Open = if leaves && is_tail (front fs) then Waiting else Open
 
--- whether the channel was routed
+-- whether the channel is routed to the output and doesn't hold it yet
 abbrev pub is_sent : Claim → Bool
 is_sent Waiting = false
 is_sent Sent = true

@@ -2,7 +2,7 @@
 //!
 //! [`DomainXbar`] moves, for all domains of a tile, the flit at the front of each granted input to the output's link,
 //! with its channel there, or to the domain's ejection place (Dally and Towles, section 16.1). A link that gets no flit
-//! stays empty. With the grants of the definition a link has what the domain that owns its slot sends. Who is granted
+//! gets none. With the grants of the definition a link has what the domain that owns its slot sends. Who is granted
 //! is left to the switch, and taking the flits from their buffers to the router.
 #![tactic(auto)]
 

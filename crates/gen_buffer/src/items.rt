@@ -1,4 +1,5 @@
 //! The items of a buffer, one by one.
+
 ghost use Rattle.std.specs.Prelude.{◌≡◌, ◌<◌, ◌≤◌, ◌+◌, ◌-◌, ◌^◌, ◌∷◌, [], OnOk, IfOk};
 ghost use Rattle.vl_tree.specs.Read.{read, read_leaf};
 ghost use Rattle.vl_model.specs.Laws.{with_items};

@@ -1,4 +1,5 @@
 //! Laws over the definitions.
+
 ghost use Rattle.gen_buffer.specs.Laws.{ListKept, ListStarts};
 
 /// An edge keeps the list in a memory, for any first content.

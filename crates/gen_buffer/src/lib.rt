@@ -2,7 +2,7 @@
 //!
 //! [`buffer`] adds a memory with a read pointer, a write pointer and a length to a leaf. The contract promises that
 //! they are a list, empty at reset, of which a pop takes the front and to which a push adds a word, whatever the memory
-//! first holds (Dally and Towles, section 17.2). Who pushes and pops, and that it is done only where there is room and
+//! first holds (Dally and Towles, section 17.1). Who pushes and pops, and that it is done only where there is room and
 //! a front, is left to the router.
 #![tactic(auto)]
 
@@ -44,7 +44,7 @@ pub struct BufferNets {
 ///
 /// # Errors
 ///
-/// Memory ran out. A prefix of the items was added.
+/// Memory ran out. What the leaf then has no clause says.
 pub fn buffer(
     alloc: Global,
     work: &mut LeafWork,

@@ -1,4 +1,4 @@
--- The nets of a rotating choice show the pick, and an edge moves the pointer behind it.
+-- The nets of a round-robin choice show the pick, and an edge moves the pointer behind it.
 use Rattle.std.proofs.Common.{◌≡◌, ℕ, ◌+◌, ◌-◌, ◌%◌, ◌<◌, ◌^◌, Bool, false, Option, refl, sym, ◌∙◌, ap, arith, ◌==◌, ◌&&◌}
 use Rattle.std.specs.Prelude.{Some, None, nat_le, bit_and, bit_or}
 use Rattle.std.specs.Option.{option_or}

@@ -1,4 +1,5 @@
 //! Builders of expressions.
+
 ghost use Rattle.std.specs.Prelude.{◌≡◌, ◌+◌, ◌-◌, ◌/◌, ◌%◌, ◌<◌, ◌≤◌, ◌^◌, IfOk};
 ghost use Rattle.vl_tree.specs.Read.{read, reads};
 ghost use Rattle.vl_tree.specs.Values as values;

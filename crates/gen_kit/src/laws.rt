@@ -1,4 +1,5 @@
 //! Laws over the definitions.
+
 ghost use Rattle.gen_kit.specs.Laws.{RotateShown, RotateKept, RotateStarts, MuxShown, TableShown};
 
 /// The nets of a round-robin choice show what is picked.

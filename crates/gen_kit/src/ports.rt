@@ -1,4 +1,5 @@
 //! The ports of a plan's text, one by one.
+
 ghost use Rattle.std.specs.Prelude.{◌≡◌, ◌≢◌, ◌<◌, ◌≤◌, ◌∷◌, ◌++◌, ℕ, List, nat_le, length, Some, IfSome, IfNone, slice_get, decimal, bytes_eq};
 ghost use Rattle.gen_kit.specs.Ports.{top_ports, host_name, same_port, difference};
 ghost use Rattle.gen_kit.specs.PortSpec.{high_of, head_of, port_of, same_at, IsSpec};

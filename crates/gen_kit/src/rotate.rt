@@ -1,4 +1,5 @@
 //! The round-robin choice over a set that is a number: one bit for each request.
+
 ghost use Rattle.std.specs.Prelude.{◌≡◌, ◌<◌, ◌+◌, ◌-◌, ◌^◌, ◌∷◌, [], ◌++◌, OnOk, IfOk};
 ghost use Rattle.vl_tree.specs.Read.{read, read_leaf};
 ghost use Rattle.vl_tree.specs.Values as values;
@@ -16,7 +17,7 @@ use vl_tree::{Const, Expr, LeafItem, Name, Op};
 /// `high + 1` bits each.
 ///
 /// The pointer is the set of the requests that are not below it. The winner is one bit, or 0 where nothing is asked
-/// for. Dally and Towles, section 18.3.3, describe the arbiter.
+/// for. Dally and Towles, section 18.4.2, describe the arbiter.
 #[derive(Drop)]
 pub struct Rotate {
     pub request: Name,

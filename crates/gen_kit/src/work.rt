@@ -1,4 +1,5 @@
 //! A leaf that is being written, and its names.
+
 ghost use Rattle.std.specs.Prelude.{◌≡◌, ◌++◌, ◌∷◌, [], decimal, OnOk, OnErr, IfOk};
 ghost use Rattle.vl_tree.specs.Read.{read, read_item, read_leaf};
 ghost use Rattle.vl_model.specs.Laws.{with_items};
@@ -43,7 +44,8 @@ pub fn name_of(alloc: Global, head: &[u8], numbers: &[u32]) -> Result<Name, Allo
     Ok(name)
 }
 
-/// A name of the generated part `tag`: it begins with `k`, the tag and an underscore, so that no two parts share one.
+/// A name of the generated part `tag`: it begins with `k` and the tag, and each number comes after an underscore,
+/// so that no two parts share one.
 ///
 /// # Errors
 ///

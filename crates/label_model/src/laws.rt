@@ -1,4 +1,5 @@
 //! Laws over the definitions.
+
 ghost use Rattle.label_model.specs.Laws.{CleanIsolates, LeastIsolates, LabelsExist, NetsRise, CarriesBelow, KeptIsLawful, FirstIsBelow, NextIsBelow, StableIsLeast, NoLeakIsClean, LeakIsFirst};
 
 /// A sound design whose outputs are clean isolates every domain.

@@ -37,12 +37,15 @@ abbrev pub all_at : ℕ → List ℕ → List Host
 all_at n [] = []
 all_at n (d ∷ ds) = record { tile = n; domain = d } ∷ all_at n ds
 
+-- a range of a tile
 abbrev pub range : ℕ → ℕ → ℕ → Range
 range tile first last = record { tile = tile; first = first; last = last }
 
+-- one tile that hosts one domain
 abbrev pub one_tile : Plan
 one_tile = record (plain false (1 ∷ [])) { hosts = alone_at (0 ∷ []); ranges = range 0 0x10 0x1f ∷ [] }
 
+-- two tiles that host two domains each
 abbrev pub two_tiles : Plan
 two_tiles = record (plain false (2 ∷ [])) {
   domains = named_from 97 (1 ∷ 1 ∷ []);
@@ -51,16 +54,20 @@ two_tiles = record (plain false (2 ∷ [])) {
   slots = 0 ∷ 1 ∷ [];
 }
 
+-- a row of three tiles, and one domain
 abbrev pub three_in_a_row : Plan
 three_in_a_row = record (plain false (3 ∷ []))
     { buffer = 4; hosts = alone_at (0 ∷ 1 ∷ 2 ∷ []); ranges = range 1 0x100 0x1ff ∷ [] }
 
+-- a ring of three tiles, and one domain
 abbrev pub ring_of_three : Plan
 ring_of_three = record (plain true (3 ∷ [])) { hosts = alone_at (0 ∷ 1 ∷ 2 ∷ []); ranges = range 0 0x0 0xff ∷ [] }
 
+-- a ring of four tiles, of which two host the domain
 abbrev pub ring_of_four : Plan
 ring_of_four = record (plain true (4 ∷ [])) { hosts = alone_at (0 ∷ 2 ∷ []); ranges = range 2 0x200 0x2ff ∷ [] }
 
+-- a row of five tiles whose ends host three domains, with links of four registers
 abbrev pub five_in_a_row : Plan
 five_in_a_row = record (plain false (5 ∷ [])) {
   stages = 4;
@@ -74,9 +81,11 @@ five_in_a_row = record (plain false (5 ∷ [])) {
 abbrev pub split_domains : Plan
 split_domains = record two_tiles { hosts = all_at 0 (0 ∷ []) ++ all_at 1 (1 ∷ []); ranges = range 1 0x100 0x1ff ∷ [] }
 
+-- two tiles whose first domain owns two of three slots
 abbrev pub weighted_slots : Plan
 weighted_slots = record two_tiles { slots = 0 ∷ 0 ∷ 1 ∷ [] }
 
+-- three dimensions of two tiles, of which the first and the last host the domain
 abbrev pub cube : Plan
 cube = record (plain false (2 ∷ 2 ∷ 2 ∷ [])) { hosts = alone_at (0 ∷ 7 ∷ []); ranges = range 7 0x700 0x7ff ∷ [] }
 

@@ -44,7 +44,7 @@ abbrev pub Hears : ℕ → ℕ → ℕ → List Input → Type 0
 Hears n t u xs = (k : ℕ) (x : Input) → t ≤ k → k ≤ u → slice_get xs k ≡ Some x → x.hears n ≡ true
 
 -- in a run with the inputs xs and the events es, whose state in cycle t is s, tile n takes a word for tile dest then,
--- and no other word is in the network up to cycle u
+-- and no other word is taken up to cycle u
 pub record IsLoneWord (p : Plan) (d n dest t u : ℕ) (word : Offer) (s : State) (xs : List Input) (es : List Event)
     : Type 0 where
   pub empty : IsEmptyState p d s

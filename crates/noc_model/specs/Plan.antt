@@ -61,7 +61,6 @@ channels_in (Some x) = x.channels
 abbrev pub domain_named : Plan → List ℕ → Option ℕ
 domain_named p name = position (λ (x : DomainPart). bytes_eq x.name name) p.domains
 
--- the channels of a domain, of one class, and none where there is no domain
 -- the channels of domain d, of one class
 abbrev pub channels : Plan → ℕ → ℕ
 channels p d = channels_in (slice_get p.domains d)

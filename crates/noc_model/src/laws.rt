@@ -71,10 +71,10 @@ pub fn whole_packets()
 {}
 
 /// The latency bound of a lone word. A domain's network is empty in cycle `t`, and tile `n` takes a packet of one word
-/// then, for tile `dest`, which hears; no other word of the domain is taken until the word is got there. Its latency is
-/// at least 4 cycles and a hop for each link of its route. On top of that it waits at most once for each dimension in
-/// which the tiles differ, and once for each wrap link of the route, each time for the other slots. It is so in
-/// the runs that a driver makes too, and each tile has a route to each.
+/// then, for tile `dest`. Then its latency is at least 4 cycles and a hop for each link of its route. On top of that it
+/// waits at most once for each dimension in which the tiles differ, and once for each wrap link of the route, each time
+/// for the other slots. Up to the latest cycle that this allows no other word of the domain is taken, and `dest` hears.
+/// It is so in the runs that a driver makes too, and each tile has a route to each.
 pub fn lone_word()
     ensures route { (p : Plan) (n dest : ℕ) → IsSound p → n < tiles p → dest < tiles p → HasRoute p n dest }
     ensures got { (p : Plan) (d n dest t : ℕ) (inputs : List Input) (word : Offer) (way : List ℕ) → IsSound p

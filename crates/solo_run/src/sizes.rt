@@ -1,4 +1,4 @@
-//! Where a step is, and how many ports, channels and places there are.
+//! Where a step is, and how many channels a port has.
 
 ghost use Rattle.std.specs.Prelude.{◌≡◌, ◌<◌, ◌≤◌, ◌+◌, ◌*◌, ◌/◌, ◌%◌, length, slice_index_or};
 ghost use Rattle.noc_model.specs.Plan.{ports, channels, link_channels, in_channels, at_local};

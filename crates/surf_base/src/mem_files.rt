@@ -63,7 +63,7 @@ impl MemFiles {
     ///
     /// # Errors
     ///
-    /// When memory runs out.
+    /// When memory runs out. Then no file is put.
     pub fn put(&mut self, name: &str, content: &[u8]) -> Result<(), AllocError>
         ensures held { OnOk result (held_of self.new name.now ≡ Holds content.now) }
         ensures others { (other : List ℕ) → other ≢ name.now →

@@ -144,8 +144,8 @@ fn new_piece(alloc: Global, size: usize) -> Result<Vec<u8>, AllocError>
 ///
 /// # Errors
 ///
-/// `Failed` when the file can't be opened or read, `TooLong` when it has more than `limit` bytes, `Memory` when memory runs
-/// out.
+/// `Failed` when the file can't be opened or read, `TooLong` when it has more than `limit` bytes, `Memory` when memory
+/// runs out.
 pub fn read_whole<F: Files>(
     alloc: Global,
     files: &mut F,

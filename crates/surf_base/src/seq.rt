@@ -1,4 +1,5 @@
 //! Lists that contracts see as the list of their elements.
+
 ghost use Rattle.std.specs.Prelude.{◌≡◌, ◌<◌, ◌↔◌, [], ◌∷◌, ◌++◌, length, slice_get, Some, IsTrue, IfOk, OnOk, OnErr};
 
 use std::alloc::{AllocError, Global};
@@ -77,11 +78,11 @@ impl<T> Seq<T> {
 }
 
 impl<T: Drop> Seq<T> {
-    /// Adds an element at the end. The list stays as it was when memory runs out.
+    /// Adds an element at the end.
     ///
     /// # Errors
     ///
-    /// When memory runs out.
+    /// When memory runs out. The list is then as it was.
     pub fn push(&mut self, item: T) -> Result<(), AllocError>
         ensures ok { OnOk result (self.new ≡ self.old ++ item ∷ []) }
         ensures err { OnErr result (self.new ≡ self.old) }

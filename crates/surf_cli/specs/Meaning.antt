@@ -108,6 +108,7 @@ unless_faulty (Some fault) next = refuses (Trace fault)
 abbrev pub with_trace : Plan → List ℕ → (List Entry → Outcome) → Outcome
 with_trace p bytes next = unless_faulty (trace.first_fault p bytes) (next (entries p (lines bytes)))
 
+-- what comes next with the design, unless there is a fault
 abbrev pub if_sound : Result Design TextFault → (Design → Outcome) → Outcome
 if_sound (Err fault) next = refuses (Text fault)
 if_sound (Ok d) next = next d

@@ -1,4 +1,4 @@
--- The line that tells a fault of a text.
+-- The line that is printed for a fault of a text.
 use Rattle.std.specs.Prelude.{ℕ, List, [], ◌∷◌, ◌++◌, codes, Option, Some, None}
 use Rattle.surf_base.specs.Numbers.{labelled}
 use Rattle.vl_tree.specs.declared.fault.TextFault.{TextFault}
@@ -20,6 +20,7 @@ place_of (Instance i) = Some (11, i)
 place_of (Ports i) = Some (12, i)
 place_of (Memory refused) = None
 
+-- the line of a fault's number and place, and that of memory that ran out
 abbrev pub printed : Option (ℕ × ℕ) → List ℕ
 printed None = codes "surf: no memory\n"
 printed (Some x) = labelled (codes "surf: text fault ") x.0 ++ labelled (codes " at ") x.1 ++ 10 ∷ []

@@ -24,6 +24,7 @@ text_read bytes =
     else if nat_lt 0 (unread bytes) then Err (Token (length bytes - unread bytes))
     else read_tokens (length bytes) (design_at (tokens_of bytes))
 
+-- what comes next, unless there is a fault
 abbrev pub unless : Option TextFault → Result Design TextFault → Result Design TextFault
 unless None next = next
 unless (Some fault) next = Err fault

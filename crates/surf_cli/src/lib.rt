@@ -3,8 +3,8 @@
 //! [`surf`] promises that a run's status and bytes are the meaning of its words and of what the named files hold, that
 //! each other status has its cause in the outside, and that nothing is written but whole answers or, where writing
 //! fails, a prefix of one. A command is a file of `commands`: its words, the files that it names, and the making of its
-//! answer, which takes all memory; writing takes none. [`laws`] has that reports do not interfere. Which files and
-//! sinks these are is left to the program above.
+//! answer, which takes all memory; writing takes none. [`laws`] has that reports do not interfere, and that what is
+//! read of a text is the design that it spells. Which files and sinks these are is left to the program above.
 #![tactic(auto)]
 
 ghost use Rattle.std.specs.Prelude.{◌≡◌, ◌≢◌, ◌⊎◌, [], map, string_bytes};

@@ -1,4 +1,4 @@
-//! The line that tells a fault of a text.
+//! The line that is printed for a fault of a text.
 
 ghost use Rattle.std.specs.Prelude.{◌≡◌, ◌≤◌, length, take};
 ghost use Rattle.surf_cli.specs.TextLine.{place_of, printed, line_of};
@@ -43,7 +43,7 @@ fn put_printed(buf: &mut [u8], place: Option<(u64, u64)>) -> usize
     }
 }
 
-/// Writes the line that tells a fault, with its LF, to the front of `buf`, and answers its length in bytes: `surf: text
+/// Writes the line of a fault, with its LF, to the front of `buf`, and answers its length in bytes: `surf: text
 /// fault N at I`. Where memory ran out it is `surf: no memory`.
 pub(crate) fn text_fault_line(fault: &TextFault, buf: &mut [u8; 96]) -> usize
     ensures written { take result buf.new ≡ line_of fault.now }

@@ -1,4 +1,5 @@
 //! One cycle of the attachments: what they show, and what their driver is notified of.
+
 ghost use Rattle.std.specs.Prelude.{◌≡◌, ◌≢◌, ◌<◌, ◌≤◌, ℕ, Some, length, slice_get};
 ghost use Rattle.vl_model.specs.Whole.{Nets};
 ghost use Rattle.noc_model.specs.declared.Host.{Host};

@@ -1,4 +1,5 @@
 //! What the output ports show in a cycle.
+
 ghost use Rattle.std.specs.Prelude.{◌≡◌, ◌<◌, ◌≤◌, ◌^◌, ℕ, Some, length, slice_get, codes};
 ghost use Rattle.vl_model.specs.Whole.{Nets};
 ghost use Rattle.noc_model.specs.declared.Host.{Host};

@@ -1,4 +1,5 @@
 //! What a driver puts on the input ports.
+
 ghost use Rattle.std.specs.Prelude.{◌≡◌, ◌<◌, [], ◌∷◌, ◌++◌, length, OnOk};
 ghost use Rattle.vl_model.specs.Meaning.{one_if};
 ghost use Rattle.gen_kit.specs.Ports.{top_ports};

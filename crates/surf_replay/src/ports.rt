@@ -1,4 +1,5 @@
 //! Whether a design has the ports of a plan's text.
+
 ghost use Rattle.std.specs.Prelude.{◌≡◌, None, Some, IfOk, IfErr};
 ghost use Rattle.vl_tree.specs.Read.{read_design};
 ghost use Rattle.vl_rules.specs.Answer.{design_of};

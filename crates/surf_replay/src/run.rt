@@ -1,4 +1,5 @@
 //! The run of a text that a driver drives, and its events.
+
 ghost use Rattle.std.specs.Prelude.{◌≡◌, ◌<◌, ◌≤◌, ◌==◌, ℕ, None, length, filter, IfOk, OnOk, OnErr};
 ghost use Rattle.vl_tree.specs.Read.{read_design};
 ghost use Rattle.vl_rules.specs.Answer.{design_of};

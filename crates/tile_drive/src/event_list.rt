@@ -43,7 +43,7 @@ impl Events {
         let _ = &self.items;
     }
 
-    /// Adds an event that doesn't come before the last one. On an error the list is as it was.
+    /// Adds an event that doesn't come before the last one.
     ///
     /// # Errors
     ///

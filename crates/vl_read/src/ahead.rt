@@ -1,4 +1,5 @@
 //! The next token, and readers of single tokens.
+
 ghost use Rattle.std.specs.Prelude.{◌≡◌, ◌≤◌, ◌<◌, length};
 ghost use Rattle.vl_tree.specs.Tokens as tokens;
 ghost use Rattle.vl_tree.specs.Tokens.{tokens_of};

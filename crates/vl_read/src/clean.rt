@@ -1,4 +1,5 @@
 //! The bytes and the pieces of a text.
+
 ghost use Rattle.std.specs.Prelude.{◌≡◌, ◌≤◌, length};
 ghost use Rattle.std.specs.List.{prefix_len};
 ghost use Rattle.vl_tree.specs.Tokens as tokens;

@@ -1,4 +1,5 @@
 //! A whole text.
+
 ghost use Rattle.std.specs.Prelude.{◌≡◌, ℕ, IfOk, IfErr, MatchResult, Err};
 ghost use Rattle.vl_tree.specs.Values as values;
 ghost use Rattle.vl_tree.specs.Read as views;

@@ -1,4 +1,5 @@
 //! Why reading stopped.
+
 ghost use Rattle.std.specs.Prelude.{◌≡◌};
 ghost use Rattle.vl_read.specs.declared.error.ReadError.TheVariants.{Memory};
 

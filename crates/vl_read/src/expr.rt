@@ -1,4 +1,5 @@
 //! Expressions, level by level.
+
 ghost use Rattle.std.specs.Prelude.{◌≡◌, ◌<◌, ◌≤◌, map, IfOk, [], ◌∷◌};
 ghost use Rattle.vl_tree.specs.Read.{read};
 ghost use Rattle.vl_tree.specs.Values as values;

@@ -1,4 +1,5 @@
 //! Items of a leaf.
+
 ghost use Rattle.std.specs.Prelude.{◌≡◌};
 ghost use Rattle.vl_tree.specs.Read.{read, read_item};
 ghost use Rattle.vl_tree.specs.Reading as reading;

@@ -1,4 +1,5 @@
 //! Modules and whole designs.
+
 ghost use Rattle.std.specs.Prelude.{◌≡◌};
 ghost use Rattle.vl_tree.specs.Read.{read_item, read_items, read_leaf, read_leaves, read_design};
 ghost use Rattle.vl_tree.specs.Reading as reading;

@@ -1,4 +1,5 @@
 //! The longest piece at the front of a text.
+
 ghost use Rattle.std.specs.Prelude.{◌≡◌, ◌+◌, ◌<◌, ◌≤◌, ◌&&◌, Some, drop, slice_index, option_map, length, IfSome};
 ghost use Rattle.vl_tree.specs.Tokens as tokens;
 ghost use Rattle.vl_tree.specs.Tokens.{run_of, after_run};

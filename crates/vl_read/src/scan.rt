@@ -1,4 +1,5 @@
 //! How far a text goes on in one way.
+
 ghost use Rattle.std.specs.Prelude.{◌≡◌, ℕ, ◌+◌, ◌==◌, ◌<◌, ◌≤◌, ◌&&◌, slice_index, IfSome, not, length, take, drop};
 ghost use Rattle.std.specs.List.{prefix_len, list_any};
 ghost use Rattle.std.specs.Str.{bytes_eq};

@@ -1,4 +1,5 @@
 //! A rule, with what it needs to know of a module, and the first line that breaks it.
+
 ghost use Rattle.std.specs.Prelude.{◌≡◌, IfOk};
 ghost use Rattle.std.specs.List.{position_from};
 ghost use Rattle.vl_model.specs.Lines.{module_sites};

@@ -1,4 +1,5 @@
 //! Nets are assigned before they are read, are driven once, and don't go through from input ports.
+
 ghost use Rattle.std.specs.Prelude.{◌≡◌, IfOk, min, bytes_eq, count_by, ◌==◌};
 ghost use Rattle.std.specs.List.{list_all};
 ghost use Rattle.vl_tree.specs.Values.{Name};

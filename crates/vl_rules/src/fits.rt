@@ -1,4 +1,5 @@
 //! Widths are 1 to 64 and agree, and an index has exactly the bits for the words of its memory.
+
 ghost use Rattle.std.specs.Prelude.{◌≡◌, ◌==◌, ◌&&◌, ◌+◌, ◌∷◌, ◌++◌, not};
 ghost use Rattle.std.specs.List.{list_all};
 ghost use Rattle.vl_tree.specs.Read.{read, read_leaf, read_item};

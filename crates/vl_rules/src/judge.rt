@@ -1,4 +1,5 @@
 //! The first fault of a design.
+
 ghost use Rattle.std.specs.Prelude.{◌≡◌, ◌<◌, ◌+◌, ◌++◌, [], IfOk, Some, length, map, take, slice_get};
 ghost use Rattle.std.specs.List.{position_from};
 ghost use Rattle.vl_tree.specs.Read.{read_design, read_leaves};

@@ -1,4 +1,5 @@
 //! The call that judges a design.
+
 ghost use Rattle.std.specs.Prelude.{◌≡◌, IfOk, OnOk, IfErr};
 ghost use Rattle.vl_tree.specs.Read.{read_design};
 ghost use Rattle.vl_tree.specs.Spells.{IsPlain};

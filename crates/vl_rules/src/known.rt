@@ -1,4 +1,5 @@
 //! Names are declared once, and in the right way before they are used.
+
 ghost use Rattle.std.specs.Prelude.{◌≡◌, not, ◌&&◌};
 ghost use Rattle.std.specs.List.{list_all};
 ghost use Rattle.vl_tree.specs.Read.{read, read_leaf, read_item};

@@ -1,4 +1,5 @@
 //! The leaves of a design, found by name, with what each of them declares.
+
 ghost use Rattle.std.specs.Prelude.{◌≡◌, ◌<◌, length, slice_get, take, IfOk, IfSome, Some, option_map};
 ghost use Rattle.vl_tree.specs.Values.{Name};
 ghost use Rattle.vl_tree.specs.Read.{read_leaf, read_leaves};

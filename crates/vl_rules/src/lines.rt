@@ -1,4 +1,5 @@
 //! The lines of a module: its heading, its ports and its items, which are numbered in this order.
+
 ghost use Rattle.std.specs.Prelude.{◌≡◌, ◌<◌, Some, length, slice_get, option_map};
 ghost use Rattle.vl_model.specs.Lines.{declared, way_of, leaf_lines, top_lines};
 ghost use Rattle.vl_tree.specs.Read.{read_leaf};

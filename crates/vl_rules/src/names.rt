@@ -1,4 +1,5 @@
 //! Tables keyed by name.
+
 ghost use Rattle.std.specs.Prelude.{◌≡◌, List, ℕ, None, Some, OnOk, bytes_eq, if◌then◌else◌};
 ghost use Rattle.std.specs.Option.{option_or};
 ghost use Rattle.vl_rules.specs.Names.{found};

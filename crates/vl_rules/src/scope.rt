@@ -1,4 +1,5 @@
 //! What is known of the names of a module, in tables by name.
+
 ghost use Rattle.std.specs.Prelude.{◌≡◌, IfOk, OnOk, Some, None, option_map, if◌then◌else◌};
 ghost use Rattle.std.specs.Option.{option_or};
 ghost use Rattle.vl_tree.specs.Values.{Name};

@@ -1,4 +1,5 @@
 //! A module among the others, with what its lines declare.
+
 use crate::library::Library;
 use crate::lines::Module;
 use crate::names::Names;

@@ -1,4 +1,5 @@
 //! Sound designs.
+
 ghost use Rattle.std.specs.Prelude.{◌≡◌, true, None};
 ghost use Rattle.vl_tree.specs.Plain.{plain_design};
 ghost use Rattle.vl_tree.specs.Read.{read_design};

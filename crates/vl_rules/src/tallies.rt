@@ -1,4 +1,5 @@
 //! How often each name of a module is driven, and which names depend on its input ports.
+
 ghost use Rattle.std.specs.Prelude.{◌≡◌, ◌+◌, List, OnOk, IfOk, min, take, bytes_eq, count_by};
 ghost use Rattle.vl_tree.specs.Read.{read_leaf, read_leaves};
 ghost use Rattle.vl_tree.specs.Values.{Name};

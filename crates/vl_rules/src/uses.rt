@@ -1,4 +1,5 @@
 //! The memories that an expression reads, and the widths of their indexes.
+
 ghost use Rattle.std.specs.Prelude.{◌≡◌, ◌==◌, ◌^◌, min};
 ghost use Rattle.std.specs.List.{list_any};
 ghost use Rattle.vl_tree.specs.Read.{read, reads};

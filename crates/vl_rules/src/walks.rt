@@ -1,4 +1,5 @@
 //! The nets that an expression reads.
+
 ghost use Rattle.std.specs.Prelude.{◌≡◌};
 ghost use Rattle.std.specs.List.{list_any};
 ghost use Rattle.vl_tree.specs.Read.{read, reads};

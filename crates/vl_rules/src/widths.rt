@@ -1,4 +1,5 @@
 //! Widths of expressions.
+
 ghost use Rattle.std.specs.Prelude.{◌≡◌, ◌==◌, ◌&&◌, if◌then◌else◌, Some, None};
 ghost use Rattle.vl_tree.specs.Read.{read, reads};
 ghost use Rattle.vl_tree.specs.Values.{cat};

@@ -1,4 +1,5 @@
 //! Rows of numbers.
+
 ghost use Rattle.std.specs.Prelude.{◌≡◌, IfOk, replicate, slice_index, slice_set};
 
 use std::alloc::{AllocError, Global};

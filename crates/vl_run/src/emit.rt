@@ -1,4 +1,5 @@
 //! The steps that compute an expression.
+
 ghost use Rattle.std.specs.Prelude.{◌≡◌, ◌+◌, ◌≤◌, ◌∷◌, ◌++◌, [], min, IfOk, OnOk};
 ghost use Rattle.vl_tree.specs.Read.{read, reads};
 ghost use Rattle.vl_rules.specs.Scope.{widths_at};

@@ -1,4 +1,5 @@
 //! A sound design that runs.
+
 ghost use Rattle.std.specs.Prelude.{◌≡◌, ◌+◌, ◌<◌, ◌^◌, ℕ, true, Some, slice_get, slice_index, map, IfOk};
 ghost use Rattle.vl_tree.specs.declared.tree.Port.{Port};
 ghost use Rattle.vl_tree.specs.Values.{Name, Design};

@@ -1,4 +1,5 @@
 //! All instances, and the top's nets between them.
+
 ghost use Rattle.std.specs.Prelude.{◌≡◌, List, [], ◌∷◌, ◌++◌, map, IfOk, OnOk};
 ghost use Rattle.std.specs.List.{AllByRecursion};
 ghost use Rattle.vl_tree.specs.declared.tree.TopItem.{TopItem};

@@ -1,4 +1,5 @@
 //! What a leaf's items become, and the links of an instance.
+
 ghost use Rattle.std.specs.Prelude.{◌≡◌, ◌+◌, ◌++◌, IfOk, OnOk, length};
 ghost use Rattle.vl_tree.specs.Read.{read, read_item, read_items, read_leaf};
 ghost use Rattle.vl_model.specs.Lines.{leaf_lines, port_named};

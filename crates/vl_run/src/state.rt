@@ -1,4 +1,5 @@
 //! The numbers of an instance, and an edge of it.
+
 ghost use Rattle.std.specs.Prelude.{◌≡◌, ◌≤◌, ◌∷◌, [], map, IfOk};
 ghost use Rattle.std.specs.List.{AllByRecursion};
 ghost use Rattle.vl_tree.specs.Read.{read_leaf};

@@ -36,7 +36,7 @@ fn sound(alloc: Global) -> Result<Sound, AllocError> {
 #[test]
 fn counter_and_memory_run(rt: HostRuntime) -> Result<(), Fail> {
     let mut machine = Machine::new(rt.alloc(), sound(rt.alloc())?)?;
-    /// The count, the memory's word with what stands behind it, and what is fed.
+    // The count, the memory's word with what stands behind it, and what is fed.
     for (count, word, fed) in [
         (2, 0b0001, 1),
         (3, 0b0000, 1),

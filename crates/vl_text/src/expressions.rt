@@ -1,4 +1,5 @@
 //! Expressions.
+
 ghost use Rattle.std.specs.Prelude.{◌≡◌, ◌++◌, OnOk};
 ghost use Rattle.vl_tree.specs.Values.{cat};
 ghost use Rattle.vl_tree.specs.Read.{read, reads};

@@ -1,4 +1,5 @@
 //! Items, ports, modules and whole designs.
+
 ghost use Rattle.std.specs.Prelude.{◌≡◌, ◌++◌, OnOk, IfOk};
 ghost use Rattle.vl_tree.specs.Values as values;
 ghost use Rattle.vl_tree.specs.declared.tree.TopItem.TheVariants.{Instance};

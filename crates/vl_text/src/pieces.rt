@@ -1,4 +1,5 @@
 //! Numbers, constants, operators and ranges.
+
 ghost use Rattle.std.specs.Prelude.{◌≡◌, ◌++◌, OnOk, decimal};
 ghost use Rattle.vl_tree.specs.Layout.{op_text, const_text, ranged_text};
 

@@ -1,4 +1,5 @@
 //! Copies of designs.
+
 ghost use Rattle.std.specs.Prelude.{◌≡◌, IfOk};
 ghost use Rattle.vl_tree.specs.Read.{read, reads, read_item, read_items, read_leaf, read_leaves, read_design};
 

@@ -1,4 +1,5 @@
 //! What can be wrong with a text.
+
 use std::alloc::AllocError;
 use thiserror::Error;
 

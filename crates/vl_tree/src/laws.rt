@@ -1,4 +1,5 @@
 //! Laws over the definitions.
+
 ghost use Rattle.std.specs.Prelude.{◌≡◌, ℕ, List};
 ghost use Rattle.vl_tree.specs.Values.{Design};
 ghost use Rattle.vl_tree.specs.Spells.{Spells};

@@ -1,4 +1,5 @@
 //! Whether some bytes spell a design.
+
 ghost use Rattle.std.specs.Prelude.{◌≡◌, ◌-◌, ◌^◌, ◌<◌, ◌≤◌, ◌↔◌, nat_lt, ℕ, List, IsTrue};
 ghost use Rattle.std.specs.List.{list_all};
 ghost use Rattle.vl_tree.specs.Read.{read, reads, read_item, read_items, read_leaf, read_leaves, read_design};

@@ -1,4 +1,5 @@
 //! Designs, leaves, items and expressions.
+
 use sqlite_items::{Boxed, Items};
 use surf_base::Seq;
 
