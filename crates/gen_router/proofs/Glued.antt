@@ -1,21 +1,20 @@
 -- One edge keeps the tie of a domain: each group's conditions come from the other groups' nets and from the tie.
 use Rattle.std.proofs.Common.{◌≡◌, ◌≢◌, ℕ, zero, suc, ◌+◌, ◌-◌, ◌*◌, ◌/◌, ◌%◌, ◌<◌, ◌≤◌, ◌^◌, ◌⊎◌, inl, inr, Bool, true, false, List, [], ◌∷◌, length, Option, refl, sym, ◌∙◌, ap, arith, subst, ◌==◌, ◌&&◌}
-use Rattle.std.specs.Prelude.{map, Some, None, is_some, is_none, nat_lt, if◌then◌else◌, pos, ◌+ℤ◌, ◌-ℤ◌}
+use Rattle.std.specs.Prelude.{All, bit_and, map, Some, None, is_some, is_none, nat_lt, if◌then◌else◌, pos, ◌+ℤ◌, ◌-ℤ◌}
 use Rattle.std.proofs.lemmas.Bool.Decides.{nat_tests}
 use Rattle.std.proofs.lemmas.Int.{ints}
-use Rattle.std.proofs.lemmas.Nat.{mul-le, div-mul-add}
-use Rattle.std.proofs.Math.Nat.{mod-eq_of_lt, mul-add-mod_self_right}
-use Rattle.vl_tree.specs.Values.{Expr, net, not, cat}
+use Rattle.std.proofs.lemmas.Nat.{mul-le}
+use Rattle.std.proofs.lemmas.List.Elements.{All-head}
+use Rattle.vl_tree.specs.Values.{Expr, net, bit, not}
 use Rattle.vl_model.specs.Meaning.{Widths, Values, value_of, width_of, one_if}
-use Rattle.gen_kit.specs.Families.{in_bits}
 use Rattle.noc_model.specs.declared.Flit.{Flit}
 use Rattle.noc_model.specs.declared.LinkFlit.{LinkFlit}
 use Rattle.noc_model.specs.declared.Stage.{Stage}
 use Rattle.noc_model.specs.declared.Stage.TheVariants.{Idle, Routed, Active}
 use Rattle.noc_model.specs.Plan.{Plan, channels, link_channels, ports, tiles, hosts, out_channels, at_local}
-use Rattle.noc_model.specs.Place.{neighbour, opposite, owner}
+use Rattle.noc_model.specs.Place.{neighbour, opposite, owner, route}
 use Rattle.noc_model.specs.Sound.{IsSound}
-use Rattle.noc_model.specs.SoundState.{HasOutput, IsOutput, IsSoundTile}
+use Rattle.noc_model.specs.SoundState.{HasOutput, IsOutput, IsSoundTile, GoesHome}
 use Rattle.noc_model.specs.Tile.{Tile, TileIn}
 use Rattle.noc_model.specs.Step.{takes, is_ready, is_ready_at, leaves, front, is_tail, comes_in, sent, is_on, is_tail_on, tile_step}
 use Rattle.noc_model.proofs.Coords.{positive}
@@ -24,15 +23,14 @@ use Rattle.noc_model.proofs.StateKept.{some-channels}
 use Rattle.noc_model.proofs.TileKept.{tile_step-sound}
 use Rattle.gen_kit.specs.Masks.{mask}
 use Rattle.gen_kit.specs.Rotate.{PointsTo}
-use Rattle.gen_router.specs.Places.{stage_at, queue_at, is_active, is_idle, leaves_at, ends_at}
+use Rattle.gen_router.specs.Places.{stage_at, queue_at, is_active, is_idle, is_led, leaves_at, ends_at}
 use Rattle.gen_router.specs.Alloc.{AllocIn, AllocTie, out_count}
 use Rattle.gen_router.specs.Switch.{goes_by, ready_for, ReadyIn, SwitchIn, place_count}
-use Rattle.gen_kit.specs.Families.{row_parts}
 use Rattle.gen_router.specs.Buffers.{BufferSize, BufferTie, is_filled}
-use Rattle.gen_router.specs.Tie.{LeafNames, PortNames, HasLink, HasPort, HasPlace, alloc_size, DomainTie, LeafIn, word_code, flit_code, ejected_code}
-use Rattle.gen_router.specs.Glue.{NetNames, switch_names, switch_size, high, out_high, has_place, filled_bit, able, some_active, DomainRuns, SlotsShown, Borrowed, GlueFits, link_push, pop_of}
+use Rattle.gen_router.specs.Tie.{LeafNames, PortNames, HasLink, HasPort, HasPlace, alloc_size, DomainTie, LeafIn, PortIn, word_code, flit_code, ejected_code, IsWord}
+use Rattle.gen_router.specs.Glue.{NetNames, switch_names, switch_size, high, out_high, has_place, front_bits, able, some_active, DomainRuns, SlotsShown, Borrowed, GlueFits, link_push, pop_of}
 use Rattle.gen_kit.proofs.Sets.{mask-same, mask-and, mask-none, mask-bit}
-use Rattle.gen_kit.proofs.Families.{rows-shown, rows-wide, bit-or}
+use Rattle.gen_kit.proofs.Families.{rows-shown, bit-or}
 use Rattle.gen_router.proofs.Allocated.{alloc-kept}
 use Rattle.gen_router.proofs.Switched.{ready-shown}
 use Rattle.gen_router.proofs.Granted.{leaves-shown, granted-shown, turns-kept, choices-kept}
@@ -40,8 +38,11 @@ use Rattle.gen_router.proofs.Sent.{on-shown, freed-shown}
 use Rattle.gen_router.proofs.Counted.{idle-kept, credit-kept}
 use Rattle.gen_router.proofs.Buffered.{buffer-kept, arrival-pushes, bit-and}
 use Rattle.gen_router.proofs.Sized.{high-is, place_count-is, in_few, out-link, fits-output, some-link-channels}
-use Rattle.gen_router.proofs.Homes.{away-home}
-use Rattle.gen_router.proofs.Steps.{MayCome, comes-room, absent-kept, within-kept, short-kept, away-kept}
+use Rattle.gen_router.proofs.Homes.{away-home, host-tile}
+use Rattle.gen_buffer.specs.Fifo.{fifo_items, WordsAre}
+use Rattle.vl_model.specs.Parts.{AllHold}
+use Rattle.gen_router.proofs.Placed.{one-bit, row-of, channel-of, place-there, place-not, place-bits-shown, bit-is, bit-one, tail-bit, route-bit, flit-small, on_front, front-tail, front-leads}
+use Rattle.gen_router.proofs.Steps.{MayCome, comes-room, absent-kept, within-kept, short-kept, words-kept, away-kept}
 
 -- ---- ports
 
@@ -102,9 +103,6 @@ not-zero c = go (nat_lt 0 c) refl
     go true e = let differ : (c == 0) ≡ false = grind (arith, nat_tests, e) in rw differ refl
     go false e = let same : (c == 0) ≡ true = grind (arith, nat_tests, e) in rw same refl
 
-one-bit : (f : ℕ → Bool) (k : ℕ) → one_if (f k) ≡ mask 1 (λ j. f (k * 1 + j))
-one-bit f k = let e : k * 1 + 0 ≡ k = omega arith in rw e (omega arith)
-
 empty-code : (x : Option Flit) → one_if (ejected_code x == 0) ≡ one_if (is_none x)
 empty-code None = refl
 empty-code (Some f) =
@@ -123,44 +121,15 @@ some-out p d (suc o) some =
     let l = some-link-channels p d some in
     omega (arith, e, l)
 
-row-of : (v port c : ℕ) → c < v → (port * v + c) / v ≡ port
-row-of v port c below = div-mul-add port v c below
-
-channel-of : (v port c : ℕ) → c < v → (port * v + c) % v ≡ c
-channel-of v port c below = mul-add-mod_self_right port v c ∙ mod-eq_of_lt below
-
--- a place is there or not
-place-there : (p : Plan) (n d port c : ℕ) → port < ports p → has_place p n d port c ≡ true → HasPlace p n d port c
-place-there p n d zero c below e = both (hosts p n d) refl e
-  where
-    both : (b : Bool) → hosts p n d ≡ b → (b && nat_lt c (channels p d)) ≡ true → (hosts p n d ≡ true) × (c < channels p d)
-    both true is f = (is, grind (arith, nat_tests, f))
-    both false is f = absurd (cc f)
-place-there p n d (suc port) c below e = both (is_some (neighbour p n (suc port))) refl e
-  where
-    both : (b : Bool) → is_some (neighbour p n (suc port)) ≡ b → (b && nat_lt c (link_channels p d)) ≡ true → HasPlace p n d (suc port) c
-    both true is f = ((below, is), grind (arith, nat_tests, f))
-    both false is f = absurd (cc f)
-
-place-not : (p : Plan) (n d port c : ℕ) → has_place p n d port c ≡ false → HasPlace p n d port c → ⊥
-place-not p n d zero c e place =
-    let less : nat_lt c (channels p d) ≡ true = (let b = place.1 in grind (arith, nat_tests, b)) in
-    let all : (hosts p n d && nat_lt c (channels p d)) ≡ true = rw (place.0, less) refl in
-    cc (sym e ∙ all)
-place-not p n d (suc port) c e place =
-    let less : nat_lt c (link_channels p d) ≡ true = (let b = place.1 in grind (arith, nat_tests, b)) in
-    let all : (is_some (neighbour p n (suc port)) && nat_lt c (link_channels p d)) ≡ true = rw (place.0.1, less) refl in
-    cc (sym e ∙ all)
-
 filled-length : (code : Flit → ℕ) (fs : List Flit) → 2 ^ 1 - 1 - one_if (length (map code fs) == 0) ≡ one_if (is_filled fs)
 filled-length code [] = refl
 filled-length code (f ∷ fs) = let differ : (length (map code (f ∷ fs)) == 0) ≡ false = grind (arith, nat_tests) in rw differ refl
 
 module _ (p : Plan) (n d : ℕ) (names : LeafNames) (nets : NetNames) (q : PortNames) (base : ℕ → ℕ) (size : BufferSize) (slot_high dest_bits link_flit link_channel : ℕ) (enters : ℕ → Expr)
     (w : Widths) (v u : Values) (t : ℕ) (s : ℕ → Tile) (i : ℕ → TileIn)
-    (sound : IsSound p) (there : d < length p.domains) (fits : GlueFits p size slot_high link_channel)
+    (sound : IsSound p) (there : d < length p.domains) (fits : GlueFits p size slot_high dest_bits link_flit link_channel)
     (here : n < tiles p)
-    (runs : DomainRuns p n d names nets q base size link_flit link_channel enters w v u)
+    (runs : DomainRuns p n d names nets q base size dest_bits link_flit link_channel enters w v u)
     (slots : SlotsShown p n d names v (pos t))
     (more : Borrowed p n d names nets dest_bits enters w v u (pos t) (s d) (i d))
     (input : LeafIn p n q base dest_bits link_flit link_channel v t s i)
@@ -177,6 +146,16 @@ module _ (p : Plan) (n d : ℕ) (names : LeafNames) (nets : NetNames) (q : PortN
       go None is = absurd (cc (sym (input.unlinked d port is) ∙ e))
       go (Some m) is = (m, is)
 
+  arrives-word : (port m : ℕ) (e : neighbour p n port ≡ Some m) (x : LinkFlit) → (i d).arrives port ≡ Some x → IsWord x.flit
+  arrives-word port m e x is = go (owner p m (opposite port) (pos t -ℤ pos p.stages) == d) (sym (link.its_own d) ∙ is)
+    where
+      link : PortIn p n port m q dest_bits link_flit link_channel v t s i (input.links port m e).0
+      link = (input.links port m e).1
+
+      go : (b : Bool) → (if b then (input.links port m e).0 else None) ≡ Some x → IsWord x.flit
+      go true f = link.payload x f
+      go false f = absurd (cc f)
+
   may : MayCome p n d (s d) (i d)
   may = record {
     home = record {
@@ -188,57 +167,113 @@ module _ (p : Plan) (n d : ℕ) (names : LeafNames) (nets : NetNames) (q : PortN
     room = λ o x link e. input.room d o x link e;
   }
 
+  -- what the port shows is a word of a flit
+  link-fits : (port m : ℕ) (e : neighbour p n port ≡ Some m) (x : LinkFlit) → (input.links port m e).0 ≡ Some x → (x.channel < 2 ^ link_channel) × (flit_code dest_bits x.flit < 2 ^ link_flit)
+  link-fits port m e x is =
+      let k : ℕ = owner p m (opposite port) (pos t -ℤ pos p.stages) in
+      let self : (k == k) ≡ true = grind (arith, nat_tests) in
+      let link = (input.links port m e).1 in
+      let its = link.its_own k ∙ ap (λ b. if b then (input.links port m e).0 else None) self ∙ is in
+      let c = link.channel k x its in
+      let few = fits.channels k in
+      let inside = host-tile p x.flit.dest k sound c.2 in
+      let most = fits.dests in (
+        (let below = c.0 in omega (arith, below, few)),
+        subst (λ b. flit_code dest_bits x.flit < 2 ^ b) (sym fits.flits) (flit-small dest_bits x.flit (omega (arith, inside, most)) (link.payload x is)),
+      )
+
   -- ---- the places that have a flit
 
-  empty-net : (port c : ℕ) → HasPlace p n d port c → (w.net (names.buffer d port c).empty ≡ 1) × (v.net (names.buffer d port c).empty ≡ one_if (v.net (names.buffer d port c).count == 0))
-  empty-net zero c place = let h = (runs.entered c place.0 place.1).now.heads in (h.1.1.1.1.1.1.1.1.0.0, h.1.1.1.1.1.1.1.1.1.0)
-  empty-net (suc port) c place = go (neighbour p n (suc port)) refl place.0.1
+  list-held : (port c : ℕ) → HasPlace p n d port c → AllHold w v (fifo_items (names.buffer d port c) size.bh size.lh size.wh)
+  list-held zero c place = (runs.entered c place.0 place.1).now.heads.1.1
+  list-held (suc port) c place = go (neighbour p n (suc port)) refl place.0.1
     where
-      go : (o : Option ℕ) → neighbour p n (suc port) ≡ o → is_some o ≡ true → (w.net (names.buffer d (suc port) c).empty ≡ 1) × (v.net (names.buffer d (suc port) c).empty ≡ one_if (v.net (names.buffer d (suc port) c).count == 0))
+      go : (o : Option ℕ) → neighbour p n (suc port) ≡ o → is_some o ≡ true → AllHold w v (fifo_items (names.buffer d (suc port) c) size.bh size.lh size.wh)
       go None e f = absurd (cc f)
-      go (Some m) e f = let h = (runs.linked (suc port) m c e place.1).now.heads in (h.1.1.1.1.1.1.1.1.0.0, h.1.1.1.1.1.1.1.1.1.0)
+      go (Some m) e f = (runs.linked (suc port) m c e place.1).now.heads.1.1
 
-  filled-wide : (port c : ℕ) → port < ports p → width_of w (filled_bit p n names d port c) ≡ 1
-  filled-wide port c below = go (has_place p n d port c) refl
-    where
-      go : (b : Bool) → has_place p n d port c ≡ b → width_of w (if b then not (net (names.buffer d port c).empty) else in_bits 1 0) ≡ 1
-      go true e = (empty-net port c (place-there p n d port c below e)).0
-      go false e = refl
+  empty-net : (port c : ℕ) → HasPlace p n d port c → (w.net (names.buffer d port c).empty ≡ 1) × (v.net (names.buffer d port c).empty ≡ one_if (v.net (names.buffer d port c).count == 0))
+  empty-net port c place = let h = list-held port c place in (h.1.1.1.1.1.1.0.0, h.1.1.1.1.1.1.1.0)
 
-  filled-value : (port c : ℕ) → port < ports p → value_of w v (filled_bit p n names d port c) ≡ one_if (is_filled ((s d).queue port c))
-  filled-value port c below = go (has_place p n d port c) refl
-    where
-      go : (b : Bool) → has_place p n d port c ≡ b → value_of w v (if b then not (net (names.buffer d port c).empty) else in_bits 1 0) ≡ one_if (is_filled ((s d).queue port c))
-      go true e =
-          let place = place-there p n d port c below e in
-          let at = empty-net port c place in
-          rw (at.0, at.1, (tie.buffers port c place).1.count) (filled-length (word_code p n dest_bits) ((s d).queue port c))
-      go false e = rw ((tie.absent port c (place-not p n d port c e)).0) refl
+  front-net : (port c : ℕ) → HasPlace p n d port c → v.net (names.buffer d port c).front ≡ v.word (names.buffer d port c).memory (v.net (names.buffer d port c).read)
+  front-net port c place = let h = list-held port c place in h.1.1.1.1.1.0
+
+  there-is : (b : Bool) (port c : ℕ) → has_place p n d port c ≡ b → (s d).queue port c ≢ [] → b ≡ true
+  there-is true port c e some_flit = refl
+  there-is false port c e some_flit = absurd (some_flit (tie.absent port c (place-not p n d port c e)).0)
 
   filled-is : v.net (nets.filled d) ≡ mask (high p d + 1) (λ place. is_filled (queue_at p d (s d) place))
   filled-is =
       runs.filled.nets.1.0
-      ∙ rows-shown (link_channels p d) w v (λ port. cat (row_parts (filled_bit p n names d port) (link_channels p d - 1))) set (ports p - 1)
-      (λ port le. rows-wide 1 w (filled_bit p n names d port) (link_channels p d - 1) (λ c few. filled-wide port c (omega (arith, le))) ∙ wide)
-      (λ port le. rows-shown 1 w v (filled_bit p n names d port) (λ c. set (port * link_channels p d + c)) (link_channels p d - 1) (λ c few. filled-wide port c (omega (arith, le)))
-      (λ c few. filled-value port c (omega (arith, le)) ∙ ap one_if (sym (at port c (omega (arith, few, full)))) ∙ one-bit (λ k. set (port * link_channels p d + k)) c)
-      ∙ ap (λ m. mask m (λ c. set (port * link_channels p d + c))) wide)
-      ∙ ap (λ m. mask m set) all
+      ∙ place-bits-shown p n d w v some (λ port c. not (net (names.buffer d port c).empty)) (λ port c. is_filled ((s d).queue port c)) each
+      ∙ mask-same (high p d + 1) _ _ (λ place below. same (place / link_channels p d) (place % link_channels p d))
     where
-      set : ℕ → Bool
-      set place = is_filled (queue_at p d (s d) place)
+      each : (port c : ℕ) → HasPlace p n d port c → (width_of w (not (net (names.buffer d port c).empty)) ≡ 1) × (value_of w v (not (net (names.buffer d port c).empty)) ≡ one_if (is_filled ((s d).queue port c)))
+      each port c place =
+          let at = empty-net port c place in (
+            at.0,
+            rw (at.0, at.1, (tie.buffers port c place).1.count) (filled-length (word_code p n dest_bits) ((s d).queue port c)),
+          )
 
-      full : 0 < link_channels p d
-      full = some-link-channels p d some
+      same : (port c : ℕ) → (has_place p n d port c && is_filled ((s d).queue port c)) ≡ is_filled ((s d).queue port c)
+      same port c = go (has_place p n d port c) refl
+        where
+          go : (b : Bool) → has_place p n d port c ≡ b → (b && is_filled ((s d).queue port c)) ≡ is_filled ((s d).queue port c)
+          go true e = refl
+          go false e = sym (ap is_filled (tie.absent port c (place-not p n d port c e)).0)
 
-      wide : (link_channels p d - 1 + 1) * 1 ≡ link_channels p d
-      wide = omega (arith, full)
+  -- ---- the flits in front
 
-      all : (ports p - 1 + 1) * link_channels p d ≡ high p d + 1
-      all = let one : ports p - 1 + 1 ≡ ports p = omega arith in rw one (sym (high-is p d some))
+  small : (port c : ℕ) (f : Flit) (fs : List Flit) → (s d).queue port c ≡ f ∷ fs → (f.dest < 2 ^ dest_bits) × (f.payload < 2 ^ 32)
+  small port c f fs e = (
+    (let inside = host-tile p f.dest d sound (All-head (GoesHome p d) f fs (subst (All (GoesHome p d)) e (tie.sound.queued port c))) in let most = fits.dests in omega (arith, inside, most)),
+    All-head IsWord f fs (subst (All IsWord) e (tie.words port c)),
+  )
 
-      at : (port c : ℕ) → c < link_channels p d → set (port * link_channels p d + c) ≡ is_filled ((s d).queue port c)
-      at port c few = ap (λ k. is_filled ((s d).queue k ((port * link_channels p d + c) % link_channels p d))) (row-of (link_channels p d) port c few) ∙ ap (λ k. is_filled ((s d).queue port k)) (channel-of (link_channels p d) port c few)
+  front-is : (port c : ℕ) (f : Flit) (fs : List Flit) → HasPlace p n d port c → (s d).queue port c ≡ f ∷ fs → v.net (names.buffer d port c).front ≡ word_code p n dest_bits f
+  front-is port c f fs place e = at (tie.buffers port c place)
+    where
+      at : BufferTie (word_code p n dest_bits) (names.buffer d port c) size v ((s d).queue port c) → v.net (names.buffer d port c).front ≡ word_code p n dest_bits f
+      at list =
+          front-net port c place ∙ ap (v.word (names.buffer d port c).memory) list.1.read
+          ∙ (subst (λ q. WordsAre (v.word (names.buffer d port c).memory) (2 ^ (size.bh + 1)) list.0 (map (word_code p n dest_bits) q)) e list.1.words).0
+
+  -- a bit of the fronts, of the places that have a flit
+  fronts-are : (k : ℕ) (h : Flit → Bool) → ((f : Flit) → f.dest < 2 ^ dest_bits → f.payload < 2 ^ 32 → word_code p n dest_bits f / 2 ^ k % 2 ≡ one_if (h f))
+      → bit_and (v.net (nets.filled d)) (value_of w v (front_bits p n names d k)) ≡ mask (high p d + 1) (λ place. on_front h (queue_at p d (s d) place))
+  fronts-are k h code =
+      rw (filled-is, place-bits-shown p n d w v some (λ port c. bit (names.buffer d port c).front k) shown (λ port c place. (refl, bit-is (v.net (names.buffer d port c).front / 2 ^ k))))
+      (mask-and (high p d + 1) (λ place. is_filled (queue_at p d (s d) place)) (λ place. has_place p n d (place / link_channels p d) (place % link_channels p d) && shown (place / link_channels p d) (place % link_channels p d)))
+      ∙ mask-same (high p d + 1) _ _ (λ place below. same (place / link_channels p d) (place % link_channels p d))
+    where
+      shown : ℕ → ℕ → Bool
+      shown port c = v.net (names.buffer d port c).front / 2 ^ k % 2 == 1
+
+      same : (port c : ℕ) → (is_filled ((s d).queue port c) && (has_place p n d port c && shown port c)) ≡ on_front h ((s d).queue port c)
+      same port c = go ((s d).queue port c) refl
+        where
+          go : (q : List Flit) → (s d).queue port c ≡ q → (is_filled q && (has_place p n d port c && shown port c)) ≡ on_front h q
+          go [] e = refl
+          go (f ∷ fs) e =
+              let there_it = there-is (has_place p n d port c) port c refl (λ none. cc (sym e ∙ none)) in
+              let at = front-is port c f fs (place-there p n d port c there_it) e in
+              let fit = small port c f fs e in
+              rw (there_it, at, code f fit.0 fit.1) (bit-one (h f))
+
+  tails-are : v.net (nets.tails d) ≡ mask (high p d + 1) (λ place. is_tail (front (queue_at p d (s d) place)))
+  tails-are =
+      runs.tails.nets.1.0 ∙ fronts-are (32 + dest_bits) (λ f. f.tail) (tail-bit p n dest_bits)
+      ∙ mask-same (high p d + 1) _ _ (λ place below. front-tail (queue_at p d (s d) place))
+
+  idles-are : v.net (names.idle d) ≡ mask (high p d + 1) (λ place. is_idle (stage_at p d (s d) place))
+  idles-are = tie.idle ∙ ap (λ m. mask m (λ place. is_idle (stage_at p d (s d) place))) (sym (high-is p d some))
+
+  led-are : (o : ℕ) → HasPort p n d o → v.net (names.alloc d o).led ≡ mask (high p d + 1) (λ place. is_led p n (queue_at p d (s d) place) (stage_at p d (s d) place) o)
+  led-are o port =
+      (runs.led o port).nets.1.0
+      ∙ rw (idles-are, fronts-are (34 + dest_bits + o) (λ f. route p n f.dest == o) (route-bit p n dest_bits o))
+      (mask-and (high p d + 1) (λ place. is_idle (stage_at p d (s d) place)) (λ place. on_front (λ (f : Flit). route p n f.dest == o) (queue_at p d (s d) place)))
+      ∙ mask-same (high p d + 1) _ _ (λ place below. ap (λ b. is_idle (stage_at p d (s d) place) && b) (front-leads p n o (queue_at p d (s d) place)))
 
   -- ---- the switch
 
@@ -304,7 +339,7 @@ module _ (p : Plan) (n d : ℕ) (names : LeafNames) (nets : NetNames) (q : PortN
       ∙ ap (λ m. mask m (leaves_at p d n (pos t) (s d) (i d))) (place_count-is p d some)
 
   ends-is : v.net (nets.ends d) ≡ mask (high p d + 1) (ends_at p d n (pos t) (s d) (i d))
-  ends-is = runs.ends.nets.1.0 ∙ rw (leaves-is, more.tails) (mask-and (high p d + 1) (leaves_at p d n (pos t) (s d) (i d)) (λ place. is_tail (front (queue_at p d (s d) place))))
+  ends-is = runs.ends.nets.1.0 ∙ rw (leaves-is, tails-are) (mask-and (high p d + 1) (leaves_at p d n (pos t) (s d) (i d)) (λ place. is_tail (front (queue_at p d (s d) place))))
 
   -- ---- allocation
 
@@ -326,7 +361,7 @@ module _ (p : Plan) (n d : ℕ) (names : LeafNames) (nets : NetNames) (q : PortN
 
   alloc-in : (o : ℕ) → HasPort p n d o → AllocIn p d n o (names.alloc d o) (alloc_size p d o) w v (pos t) (s d) (i d)
   alloc-in o port = record {
-    led = more.led o port;
+    led = led-are o port;
     ends = ap v.net (runs.one_ends o) ∙ ends-is;
     ends_width = ap w.net (runs.one_ends o) ∙ runs.ends.nets.0.0;
     freed = freed-is o port;
@@ -356,7 +391,7 @@ module _ (p : Plan) (n d : ℕ) (names : LeafNames) (nets : NetNames) (q : PortN
   places-idle =
       idle-kept p d n (names.idle d) (nets.filled d) (nets.ends d) (high p d) w v u runs.idle.now runs.idle.later runs.idle.steps (pos t) (s d) (i d)
       (record {
-        idles = tie.idle ∙ ap (λ m. mask m (λ place. is_idle (stage_at p d (s d) place))) (sym (high-is p d some));
+        idles = idles-are;
         flits = filled-is;
         flits_width = runs.filled.nets.0.0;
         last_flits = ends-is;
@@ -440,7 +475,7 @@ module _ (p : Plan) (n d : ℕ) (names : LeafNames) (nets : NetNames) (q : PortN
           (record {
             push = run.now.nets.0
                 ∙ arrival-pushes (flit_code dest_bits) link_flit link_channel _ (q.link_in (suc port)) w v (owner p m (opposite (suc port)) (pos t -ℤ pos p.stages) == d) link.0 ((i d).arrives (suc port)) c fits.some_channel
-                (record { owned = slots.arriving (suc port) m e; shown = link.1.shown; its_own = link.1.its_own d; fits = link.1.fits });
+                (record { owned = slots.arriving (suc port) m e; shown = link.1.shown; its_own = link.1.its_own d; fits = link-fits (suc port) m e });
             word = λ x is. more.words (suc port) c x place is;
             pop = run.now.nets.1.0 ∙ pop-is (suc port) c place;
             short = tie.short (suc port) c;
@@ -467,6 +502,7 @@ module _ (p : Plan) (n d : ℕ) (names : LeafNames) (nets : NetNames) (q : PortN
     absent = λ port c none. absent-kept p n d (pos t) (s d) (i d) port c may tie.sound.current none (tie.absent port c none);
     sound = after;
     within = λ o x link. within-kept p n d (pos t) (s d) (i d) o x may link (tie.within o x link);
+    words = λ port c. words-kept p n d (pos t) (s d) (i d) port c (λ k x e. (let by = arrives-by k x e in arrives-word k by.0 by.1 x e)) (input.payloads d) (tie.words port c);
     short = λ port c. short-kept p n d (pos t) (pos (suc t)) (s d) (i d) port c may after (tie.short port c);
     home = λ e port c. away-kept p n d (pos t) (s d) (i d) port c (λ f h. away-home p d n f.dest sound here h e) (tie.sound.queued port c) (tie.home e port c);
   }

@@ -11,6 +11,7 @@ pub mod Fitting
 pub mod Counted
 pub mod Steps
 pub mod Sized
+pub mod Placed
 pub mod Glued
 pub mod Homes
 pub mod Whole

@@ -24,7 +24,7 @@ use Rattle.gen_kit.specs.Families.{for_each}
 use Rattle.gen_router.specs.Alloc.{AllocTie, AllocNames, AllocSize, alloc_group, active_moves, active_move, out_count}
 use Rattle.gen_router.specs.Buffers.{BufferSize}
 use Rattle.gen_router.specs.Slots.{leaving_slot, arriving_slot}
-use Rattle.gen_router.specs.Tie.{LeafNames, PortNames, HasLink, alloc_size, DomainTie, LeafTie}
+use Rattle.gen_router.specs.Tie.{LeafNames, PortNames, HasLink, alloc_size, DomainTie, LeafTie, IsWord}
 use Rattle.gen_router.specs.Glue.{NetNames, switch_names, high, DomainStarts, LeafStarts, rows_at, state_at}
 use Rattle.gen_kit.proofs.Sets.{mask-same, mask-none, mask-from}
 use Rattle.gen_kit.proofs.Families.{each-held}
@@ -99,6 +99,7 @@ domain-starts p n d names nets q base size dest_bits v sound there e = record {
   sound = start-sound p d n (pos 0) some;
   within = λ o x link. omega arith;
   short = λ port c. omega arith;
+  words = λ port c. All-nil IsWord;
   home = λ off port c. (refl, refl);
 }
   where

@@ -23,8 +23,8 @@ use Rattle.gen_router.proofs.Glued.{domain-kept, port-link}
 
 module _ (p : Plan) (n : ℕ) (names : LeafNames) (nets : NetNames) (q : PortNames) (base : ℕ → ℕ) (size : BufferSize) (slot_high dest_bits link_flit link_channel : ℕ) (enters : ℕ → ℕ → Expr)
     (w : Widths) (v u : Values) (t : ℕ) (s : ℕ → Tile) (i : ℕ → TileIn) (shared : ℕ → ℕ → Option LinkFlit)
-    (sound : IsSound p) (inside : n < tiles p) (fits : GlueFits p size slot_high link_channel)
-    (runs : LeafRuns p n names nets q base size slot_high link_flit link_channel enters w v u)
+    (sound : IsSound p) (inside : n < tiles p) (fits : GlueFits p size slot_high dest_bits link_flit link_channel)
+    (runs : LeafRuns p n names nets q base size slot_high dest_bits link_flit link_channel enters w v u)
     (more : LeafBorrowed p n names nets dest_bits link_flit link_channel enters w v u t s i)
     (input : LeafIn p n q base dest_bits link_flit link_channel v t s i)
     (tie : LeafTie p n names size dest_bits link_flit link_channel v t s shared) where
@@ -70,8 +70,8 @@ module _ (p : Plan) (n : ℕ) (names : LeafNames) (nets : NetNames) (q : PortNam
   }
 
 leaf-run : (p : Plan) (n : ℕ) (names : LeafNames) (nets : NetNames) (q : PortNames) (base : ℕ → ℕ) (size : BufferSize) (slot_high dest_bits link_flit link_channel : ℕ) (enters : ℕ → ℕ → Expr)
-    (w : Widths) (v : ℕ → Values) (i : ℕ → ℕ → TileIn) → IsSound p → n < tiles p → GlueFits p size slot_high link_channel
-    → ((t : ℕ) → LeafRuns p n names nets q base size slot_high link_flit link_channel enters w (v t) (v (suc t)))
+    (w : Widths) (v : ℕ → Values) (i : ℕ → ℕ → TileIn) → IsSound p → n < tiles p → GlueFits p size slot_high dest_bits link_flit link_channel
+    → ((t : ℕ) → LeafRuns p n names nets q base size slot_high dest_bits link_flit link_channel enters w (v t) (v (suc t)))
     → ((t : ℕ) → LeafBorrowed p n names nets dest_bits link_flit link_channel enters w (v t) (v (suc t)) t (state_at p n i t) (i t))
     → ((t : ℕ) → LeafIn p n q base dest_bits link_flit link_channel (v t) t (state_at p n i t) (i t))
     → LeafTie p n names size dest_bits link_flit link_channel (v 0) 0 (state_at p n i 0) (rows_at p n i 0)
@@ -82,8 +82,8 @@ leaf-run p n names nets q base size slot_high dest_bits link_flit link_channel e
     (leaf-run p n names nets q base size slot_high dest_bits link_flit link_channel enters w v i sound inside fits runs more input first t)
 
 pub leaf-run-reset : (p : Plan) (n : ℕ) (names : LeafNames) (nets : NetNames) (q : PortNames) (base : ℕ → ℕ) (size : BufferSize) (slot_high dest_bits link_flit link_channel : ℕ) (enters : ℕ → ℕ → Expr)
-    (w : Widths) (v : ℕ → Values) (i : ℕ → ℕ → TileIn) → IsSound p → n < tiles p → GlueFits p size slot_high link_channel
-    → ((t : ℕ) → LeafRuns p n names nets q base size slot_high link_flit link_channel enters w (v t) (v (suc t)))
+    (w : Widths) (v : ℕ → Values) (i : ℕ → ℕ → TileIn) → IsSound p → n < tiles p → GlueFits p size slot_high dest_bits link_flit link_channel
+    → ((t : ℕ) → LeafRuns p n names nets q base size slot_high dest_bits link_flit link_channel enters w (v t) (v (suc t)))
     → ((t : ℕ) → LeafBorrowed p n names nets dest_bits link_flit link_channel enters w (v t) (v (suc t)) t (state_at p n i t) (i t))
     → ((t : ℕ) → LeafIn p n q base dest_bits link_flit link_channel (v t) t (state_at p n i t) (i t))
     → LeafStarts p n names nets q base size slot_high link_flit link_channel (v 0)

@@ -8,14 +8,12 @@ use Rattle.vl_model.specs.Parts.{AllReset}
 use Rattle.gen_buffer.specs.Fifo.{fifo_items}
 use Rattle.noc_model.specs.declared.Flit.{Flit}
 use Rattle.noc_model.specs.declared.LinkFlit.{LinkFlit}
-use Rattle.noc_model.specs.Plan.{Plan, channels, link_channels, ports, in_channels, at_local, hosts}
+use Rattle.noc_model.specs.Plan.{Plan, channels, link_channels, ports, in_channels, at_local, hosts, tiles}
 use Rattle.noc_model.specs.Place.{neighbour, opposite, owner}
 use Rattle.noc_model.specs.Tile.{Tile, TileIn, start_tile}
-use Rattle.noc_model.specs.Step.{is_tail, front, comes_in, sent, shifted, tile_step}
-use Rattle.gen_kit.specs.Masks.{mask}
+use Rattle.noc_model.specs.Step.{comes_in, sent, shifted, tile_step}
 use Rattle.gen_kit.specs.Groups.{Group, HoldsIn, StepsIn}
 use Rattle.gen_kit.specs.Rotate.{is_empty}
-use Rattle.gen_router.specs.Places.{stage_at, queue_at, is_led}
 use Rattle.gen_router.specs.Alloc.{alloc_group, out_count}
 use Rattle.gen_router.specs.Switch.{SwitchNames, SwitchSize, switch_group, ready_expr}
 use Rattle.gen_kit.specs.Families.{row_parts}
@@ -86,15 +84,34 @@ net_group h n e = record { heads = []; nets = wire h n ∷ assign n e ∷ []; mo
 abbrev pub has_place : Plan → ℕ → ℕ → ℕ → ℕ → Bool
 has_place p n d port c = at_local port (hosts p n d) (is_some (neighbour p n port)) && nat_lt c (in_channels p d port)
 
--- whether the place has a flit: a place that is not there is a constant 0
-abbrev pub filled_bit : Plan → ℕ → LeafNames → ℕ → ℕ → ℕ → Expr
-filled_bit p n names d port c = if has_place p n d port c then not (net (names.buffer d port c).empty) else in_bits 1 0
+-- one bit of a place: a constant 0 where the domain doesn't have it
+abbrev pub placed : Plan → ℕ → ℕ → (ℕ → ℕ → Expr) → ℕ → ℕ → Expr
+placed p n d e port c = if has_place p n d port c then e port c else in_bits 1 0
+
+-- one bit for each place
+abbrev pub place_bits : Plan → ℕ → ℕ → (ℕ → ℕ → Expr) → Expr
+place_bits p n d e =
+    cat (row_parts (λ port. cat (row_parts (placed p n d e port) (link_channels p d - 1))) (ports p - 1))
+
+-- bit k of the front of each place's buffer
+abbrev pub front_bits : Plan → ℕ → LeafNames → ℕ → ℕ → Expr
+front_bits p n names d k = place_bits p n d (λ port c. bit (names.buffer d port c).front k)
 
 -- the places that have a flit
 abbrev pub filled_group : Plan → ℕ → LeafNames → NetNames → ℕ → Group
 filled_group p n names nets d =
-    net_group (high p d) (nets.filled d) (cat (row_parts (λ port. cat (row_parts (filled_bit p n names d port)
-    (link_channels p d - 1))) (ports p - 1)))
+    net_group (high p d) (nets.filled d) (place_bits p n d (λ port c. not (net (names.buffer d port c).empty)))
+
+-- the places whose front flit is the last of its packet
+abbrev pub tails_group : Plan → ℕ → LeafNames → NetNames → ℕ → ℕ → Group
+tails_group p n names nets dest_bits d =
+    net_group (high p d) (nets.tails d) (two And (net (nets.filled d)) (front_bits p n names d (32 + dest_bits)))
+
+-- the places that are routed to the output: idle, with a flit whose route bit is the output's
+abbrev pub led_group : Plan → ℕ → LeafNames → NetNames → ℕ → ℕ → ℕ → Group
+led_group p n names nets dest_bits d o =
+    net_group (high p d) (names.alloc d o).led (two And (net (names.idle d)) (two And (net (nets.filled d))
+    (front_bits p n names d (34 + dest_bits + o))))
 
 -- the places that the last flit of a packet leaves
 abbrev pub ends_group : Plan → NetNames → ℕ → Group
@@ -164,12 +181,15 @@ at_or (x ∷ xs) (suc k) g = at_or xs k g
 
 -- all groups of one domain. enters k says, in one bit, that a flit enters channel k of the local port
 pub record DomainRuns (p : Plan) (n d : ℕ) (names : LeafNames) (nets : NetNames) (q : PortNames) (base : ℕ
-    → ℕ) (size : BufferSize) (link_flit link_channel : ℕ) (enters : ℕ → Expr) (w : Widths) (v u : Values) : Type 0 where
+    → ℕ) (size : BufferSize) (dest_bits link_flit link_channel : ℕ) (enters : ℕ
+    → Expr) (w : Widths) (v u : Values) : Type 0 where
   pub alloc : (o : ℕ) → HasPort p n d o → Moves (alloc_group p d n o (names.alloc d o) (alloc_size p d o)) w v u
   pub one_ends : (o : ℕ) → (names.alloc d o).ends ≡ nets.ends d
   pub switch : Moves (switch_group (switch_names names nets d) (switch_size p d)) w v u
   pub idle : Moves (idle_group (names.idle d) (nets.filled d) (nets.ends d) (high p d)) w v u
   pub filled : HoldsIn (filled_group p n names nets d) w v
+  pub tails : HoldsIn (tails_group p n names nets dest_bits d) w v
+  pub led : (o : ℕ) → HasPort p n d o → HoldsIn (led_group p n names nets dest_bits d o) w v
   pub ends : HoldsIn (ends_group p nets d) w v
   pub ready : (o : ℕ) → HasPort p n d o → HoldsIn (ready_group p n names nets q size d o) w v
   pub unready : (o : ℕ) → o < ports p → (HasPort p n d o → ⊥) → HoldsIn (unready_group p nets d o) w v
@@ -191,13 +211,9 @@ pub record SlotsShown (p : Plan) (n d : ℕ) (names : LeafNames) (v : Values) (t
   pub arriving : (port m : ℕ) → neighbour p n port ≡ Some m → v.net ((names.slot (arriving_slot p m
       (opposite port))).owns d) ≡ one_if (owner p m (opposite port) (t -ℤ pos p.stages) == d)
 
--- what groups show that are not here yet: routing, the words to store, the attachment and ejection
+-- what groups show that are not here yet: the words to store, the attachment and ejection
 pub record Borrowed (p : Plan) (n d : ℕ) (names : LeafNames) (nets : NetNames) (dest_bits : ℕ) (enters : ℕ
     → Expr) (w : Widths) (v u : Values) (t : ℤ) (s : Tile) (i : TileIn) : Type 0 where
-  -- routing
-  pub tails : v.net (nets.tails d) ≡ mask (high p d + 1) (λ place. is_tail (front (queue_at p d s place)))
-  pub led : (o : ℕ) → HasPort p n d o → v.net (names.alloc d o).led ≡ mask (high p d + 1) (λ place. is_led p n
-      (queue_at p d s place) (stage_at p d s place) o)
   -- what is stored
   pub pushes : (c : ℕ) → hosts p n d ≡ true → c < channels p d
       → value_of w v (enters c) ≡ one_if (is_filled (comes_in p d s i 0 c))
@@ -211,17 +227,21 @@ pub record Borrowed (p : Plan) (n d : ℕ) (names : LeafNames) (nets : NetNames)
   pub ejected : hosts p n d ≡ true → u.net (names.ejected d) ≡ ejected_code (tile_step p d n t s i).ejected
 
 -- what the plan and the sizes must be
-pub record GlueFits (p : Plan) (size : BufferSize) (slot_high link_channel : ℕ) : Type 0 where
+pub record GlueFits (p : Plan) (size : BufferSize) (slot_high dest_bits link_flit link_channel : ℕ) : Type 0 where
   pub slots : length p.slots ≤ 2 ^ (slot_high + 1)
   pub pointers : p.buffer ≤ 2 ^ (size.bh + 1)
   pub counts : p.buffer < 2 ^ (size.lh + 1)
   pub some_channel : 1 ≤ link_channel
+  pub channels : (d : ℕ) → link_channels p d ≤ 2 ^ link_channel
+  pub dests : tiles p ≤ 2 ^ dest_bits
+  -- head, tail, destination and payload
+  pub flits : link_flit ≡ 34 + dest_bits
 
 -- ---- the whole leaf
 
 -- all groups of a leaf. link_channel + link_flit is one less than the bits of a link's word
 pub record LeafRuns (p : Plan) (n : ℕ) (names : LeafNames) (nets : NetNames) (q : PortNames) (base : ℕ
-    → ℕ) (size : BufferSize) (slot_high link_flit link_channel : ℕ) (enters : ℕ → ℕ
+    → ℕ) (size : BufferSize) (slot_high dest_bits link_flit link_channel : ℕ) (enters : ℕ → ℕ
     → Expr) (w : Widths) (v u : Values) : Type 0 where
   pub leaving : (o : ℕ) → HasLink p n o → Moves (slot_group (names.slot (leaving_slot p n o)) slot_high p.slots
       (length p.domains) (leaving_slot p n o)) w v u
@@ -230,8 +250,8 @@ pub record LeafRuns (p : Plan) (n : ℕ) (names : LeafNames) (nets : NetNames) (
       (arriving_slot p m (opposite port))) w v u
   pub rows : (o : ℕ) → HasLink p n o → Moves (link_group (link_names p n names nets o) (link_channel + link_flit)
       (length p.domains) (p.stages - 1)) w v u
-  pub domains : (d : ℕ) → d < length p.domains → DomainRuns p n d names nets q base size link_flit link_channel
-      (enters d) w v u
+  pub domains : (d : ℕ) → d < length p.domains → DomainRuns p n d names nets q base size dest_bits link_flit
+      link_channel (enters d) w v u
 
 -- what groups show that are not here yet
 pub record LeafBorrowed (p : Plan) (n : ℕ) (names : LeafNames) (nets : NetNames)
