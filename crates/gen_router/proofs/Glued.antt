@@ -1,47 +1,52 @@
 -- One edge keeps the tie of a domain: each group's conditions come from the other groups' nets and from the tie.
-use Rattle.std.proofs.Common.{◌≡◌, ◌≢◌, ℕ, zero, suc, ◌+◌, ◌-◌, ◌*◌, ◌/◌, ◌%◌, ◌<◌, ◌≤◌, ◌^◌, ◌⊎◌, inl, inr, Bool, true, false, List, [], ◌∷◌, length, Option, refl, sym, ◌∙◌, ap, arith, subst, ◌==◌, ◌&&◌}
-use Rattle.std.specs.Prelude.{All, bit_and, map, Some, None, is_some, is_none, nat_lt, if◌then◌else◌, pos, ◌+ℤ◌, ◌-ℤ◌}
+use Rattle.std.proofs.Common.{◌≡◌, ◌≢◌, ℕ, zero, suc, ◌+◌, ◌-◌, ◌*◌, ◌/◌, ◌%◌, ◌<◌, ◌≤◌, ◌^◌, ◌⊎◌, inl, inr, Bool, true, false, List, [], ◌∷◌, length, Option, refl, sym, ◌∙◌, ap, arith, subst, ◌==◌, ◌&&◌, ℤ}
+use Rattle.std.specs.Prelude.{option_map, All, bit_and, map, Some, None, is_some, is_none, nat_lt, if◌then◌else◌, pos, ◌+ℤ◌, ◌-ℤ◌}
 use Rattle.std.proofs.lemmas.Bool.Decides.{nat_tests}
 use Rattle.std.proofs.lemmas.Int.{ints}
 use Rattle.std.proofs.lemmas.Nat.{mul-le}
 use Rattle.std.proofs.lemmas.List.Elements.{All-head}
-use Rattle.vl_tree.specs.Values.{Expr, net, bit, not}
+use Rattle.vl_tree.specs.Values.{Expr, net, bit, part, not}
 use Rattle.vl_model.specs.Meaning.{Widths, Values, value_of, width_of, one_if}
 use Rattle.noc_model.specs.declared.Flit.{Flit}
 use Rattle.noc_model.specs.declared.LinkFlit.{LinkFlit}
 use Rattle.noc_model.specs.declared.Stage.{Stage}
 use Rattle.noc_model.specs.declared.Stage.TheVariants.{Idle, Routed, Active}
-use Rattle.noc_model.specs.Plan.{Plan, channels, link_channels, ports, tiles, hosts, out_channels, at_local}
+use Rattle.noc_model.specs.Plan.{Plan, channels, link_channels, in_channels, ports, tiles, hosts, out_channels, at_local}
 use Rattle.noc_model.specs.Place.{neighbour, opposite, owner, route}
 use Rattle.noc_model.specs.Sound.{IsSound}
 use Rattle.noc_model.specs.SoundState.{HasOutput, IsOutput, IsSoundTile, GoesHome}
 use Rattle.noc_model.specs.Tile.{Tile, TileIn}
-use Rattle.noc_model.specs.Step.{takes, is_ready, is_ready_at, leaves, front, is_tail, comes_in, sent, is_on, is_tail_on, tile_step}
+use Rattle.noc_model.specs.Step.{chosen as picked_port, is_place, takes, is_ready, is_ready_at, leaves, front, is_tail, comes_in, sent, is_on, is_tail_on, tile_step}
 use Rattle.noc_model.proofs.Coords.{positive}
+use Rattle.noc_model.specs.declared.Grant.{Grant}
+use Rattle.noc_model.proofs.Switch.{chosen-inside}
 use Rattle.noc_model.proofs.Ports.{link-dim, linked-port}
 use Rattle.noc_model.proofs.StateKept.{some-channels}
 use Rattle.noc_model.proofs.TileKept.{tile_step-sound}
 use Rattle.gen_kit.specs.Masks.{mask}
 use Rattle.gen_kit.specs.Rotate.{PointsTo}
+use Rattle.gen_kit.specs.Families.{in_bits, or_upto}
+use Rattle.gen_kit.specs.Mux.{gated_words}
+use Rattle.gen_kit.proofs.Muxed.{mux-shown}
 use Rattle.gen_router.specs.Places.{stage_at, queue_at, is_active, is_idle, is_led, leaves_at, ends_at}
 use Rattle.gen_router.specs.Alloc.{AllocIn, AllocTie, out_count}
 use Rattle.gen_router.specs.Switch.{goes_by, ready_for, ReadyIn, SwitchIn, place_count}
-use Rattle.gen_router.specs.Buffers.{BufferSize, BufferTie, is_filled}
+use Rattle.gen_router.specs.Buffers.{BufferSize, BufferTie, is_filled, link_code}
 use Rattle.gen_router.specs.Tie.{LeafNames, PortNames, HasLink, HasPort, HasPlace, alloc_size, DomainTie, LeafIn, PortIn, word_code, flit_code, ejected_code, IsWord}
-use Rattle.gen_router.specs.Glue.{NetNames, switch_names, switch_size, high, out_high, has_place, front_bits, able, some_active, DomainRuns, SlotsShown, Borrowed, GlueFits, link_push, pop_of}
+use Rattle.gen_router.specs.Glue.{NetNames, switch_names, switch_size, high, out_high, has_port, has_place, front_bits, port_flit, out_flit, out_channel, able, some_active, DomainRuns, SlotsShown, Borrowed, GlueFits, link_push, pop_of}
 use Rattle.gen_kit.proofs.Sets.{mask-same, mask-and, mask-none, mask-bit}
-use Rattle.gen_kit.proofs.Families.{rows-shown, bit-or}
+use Rattle.gen_kit.proofs.Families.{rows-shown, bit-or, or-bits}
 use Rattle.gen_router.proofs.Allocated.{alloc-kept}
 use Rattle.gen_router.proofs.Switched.{ready-shown}
-use Rattle.gen_router.proofs.Granted.{leaves-shown, granted-shown, turns-kept, choices-kept}
-use Rattle.gen_router.proofs.Sent.{on-shown, freed-shown}
+use Rattle.gen_router.proofs.Granted.{choice-shown, leaves-grant, leaves-shown, granted-shown, turns-kept, choices-kept}
+use Rattle.gen_router.proofs.Sent.{on-shown, freed-shown, left, sent-from, chosen-sends, none-sent}
 use Rattle.gen_router.proofs.Counted.{idle-kept, credit-kept}
 use Rattle.gen_router.proofs.Buffered.{buffer-kept, arrival-pushes, bit-and}
 use Rattle.gen_router.proofs.Sized.{high-is, place_count-is, in_few, out-link, fits-output, some-link-channels}
 use Rattle.gen_router.proofs.Homes.{away-home, host-tile}
 use Rattle.gen_buffer.specs.Fifo.{fifo_items, WordsAre}
 use Rattle.vl_model.specs.Parts.{AllHold}
-use Rattle.gen_router.proofs.Placed.{one-bit, row-of, channel-of, place-there, place-not, place-bits-shown, bit-is, bit-one, tail-bit, route-bit, flit-small, on_front, front-tail, front-leads}
+use Rattle.gen_router.proofs.Placed.{one-bit, row-of, channel-of, place-there, place-not, place-bits-shown, bit-is, bit-one, tail-bit, route-bit, flit-small, flit-part, cat-three, or-wide, any-on, on-place, on_front, front-tail, front-leads}
 use Rattle.gen_router.proofs.Steps.{MayCome, comes-room, absent-kept, within-kept, short-kept, words-kept, away-kept}
 
 -- ---- ports
@@ -124,6 +129,21 @@ some-out p d (suc o) some =
 filled-length : (code : Flit → ℕ) (fs : List Flit) → 2 ^ 1 - 1 - one_if (length (map code fs) == 0) ≡ one_if (is_filled fs)
 filled-length code [] = refl
 filled-length code (f ∷ fs) = let differ : (length (map code (f ∷ fs)) == 0) ≡ false = grind (arith, nat_tests) in rw differ refl
+
+-- the code of the flit that is sent, and 0 where none is
+abbrev sent_code : ℕ → Option LinkFlit → ℕ
+sent_code dest_bits None = 0
+sent_code dest_bits (Some x) = flit_code dest_bits x.flit
+
+port-has : (p : Plan) (n d port : ℕ) → HasPort p n d port → has_port p n d port ≡ true
+port-has p n d zero h = h
+port-has p n d (suc port) h = h.1
+
+-- one channel of a port is left at most
+leaves-one : (p : Plan) (d n : ℕ) (t : ℤ) (s : Tile) (i : TileIn) (port c k : ℕ) → leaves p d n t s i port c ≡ true → leaves p d n t s i port k ≡ is_place (Some c) k
+leaves-one p d n t s i port c k gone =
+    let by = left p d n t s i port c gone in
+    leaves-grant p d n t s i port k ∙ ap (λ g. is_place (option_map (λ (h : Grant). h.channel) g) k) by.granted ∙ ap (λ m. m == k) by.channel
 
 module _ (p : Plan) (n d : ℕ) (names : LeafNames) (nets : NetNames) (q : PortNames) (base : ℕ → ℕ) (size : BufferSize) (slot_high dest_bits link_flit link_channel : ℕ) (enters : ℕ → Expr)
     (w : Widths) (v u : Values) (t : ℕ) (s : ℕ → Tile) (i : ℕ → TileIn)
@@ -425,6 +445,126 @@ module _ (p : Plan) (n d : ℕ) (names : LeafNames) (nets : NetNames) (q : PortN
       outside : (port : ℕ) → port ≢ 0 → (c : ℕ) → leaves p d n (pos t) (s d) (i d) port c ≡ at_local port false (leaves p d n (pos t) (s d) (i d) port c)
       outside zero link_here c = absurd (link_here refl)
       outside (suc k) link_here c = refl
+
+  -- ---- flits and link words
+
+  list-front : (q : List Flit) (f : Flit) → front q ≡ Some f → (fs : List Flit) × (q ≡ f ∷ fs)
+  list-front [] f e = absurd (cc e)
+  list-front (g ∷ fs) f e = (fs, let same : g ≡ f = cc e in ap (λ h. h ∷ fs) same)
+
+  leaves-there : (port c : ℕ) (f : Flit) → front ((s d).queue port c) ≡ Some f → HasPlace p n d port c
+  leaves-there port c f is =
+      let fs = list-front ((s d).queue port c) f is in
+      place-there p n d port c (there-is (has_place p n d port c) port c refl (λ none. cc (sym fs.1 ∙ none)))
+
+  flit-is : (port c : ℕ) (f : Flit) → leaves p d n (pos t) (s d) (i d) port c ≡ true → front ((s d).queue port c) ≡ Some f → port < ports p → v.net (nets.flit d port) ≡ flit_code dest_bits f
+  flit-is port c f gone is below =
+      (runs.flits port place.0).nets.1.0
+      ∙ (mux-shown w v (34 + dest_bits) (λ k. bit (nets.granted d port) k) (λ k. part (names.buffer d port k).front (33 + dest_bits) 0) (in_channels p d port - 1) (Some c)
+      (λ j e. (let same : c ≡ j = cc e in omega (arith, same, few))) bits).0 c refl
+      ∙ ap (λ x. x / 2 ^ 0 % 2 ^ (33 + dest_bits - 0 + 1)) (front-is port c f fs.0 place fs.1)
+      ∙ (let fit = small port c f fs.0 fs.1 in flit-part p n dest_bits f fit.0 fit.1)
+    where
+      fs : (fs : List Flit) × ((s d).queue port c ≡ f ∷ fs)
+      fs = list-front ((s d).queue port c) f is
+
+      place : HasPlace p n d port c
+      place = leaves-there port c f is
+
+      few : c < in_channels p d port
+      few = place.1
+
+      bits : (k : ℕ) → k ≤ in_channels p d port - 1 → v.net (nets.granted d port) / 2 ^ k % 2 ≡ one_if (is_place (Some c) k)
+      bits k le =
+          let l = some-link-channels p d some in
+          let within = in_few p d port in
+          let inside : k < link_channels p d - 1 + 1 = omega (arith, l, within, le) in
+          ap (λ m. m / 2 ^ k % 2) (granted-shown p d n (switch_names names nets d) (switch_size p d) w v (pos t) (s d) (i d) runs.switch.now switch-in port (omega (arith, below)))
+          ∙ mask-bit (link_channels p d - 1 + 1) k (leaves p d n (pos t) (s d) (i d) port) inside
+          ∙ ap one_if (leaves-one p d n (pos t) (s d) (i d) port c k gone)
+
+  out-flit-bits : (o : ℕ) → o < ports p → (k : ℕ) → k ≤ ports p - 1 → v.net (names.switch d o).winner / 2 ^ k % 2 ≡ one_if (is_place (picked_port p d n (pos t) (s d) (i d) o) k)
+  out-flit-bits o below k le =
+      ap (λ m. m / 2 ^ k % 2) (choice-shown p d n (switch_names names nets d) (switch_size p d) w v (pos t) (s d) (i d) runs.switch.now switch-in o (omega (arith, below)))
+      ∙ mask-bit (ports p - 1 + 1) k (is_place (picked_port p d n (pos t) (s d) (i d) o)) (omega (arith, le))
+
+  -- the flit that goes by an output
+  out-flit-is : (o : ℕ) → o < ports p → value_of w v (out_flit p n names nets dest_bits d o) ≡ sent_code dest_bits (sent p d n (pos t) (s d) (i d) o)
+  out-flit-is o below = go (picked_port p d n (pos t) (s d) (i d) o) refl
+    where
+      inside : (j : ℕ) → picked_port p d n (pos t) (s d) (i d) o ≡ Some j → j ≤ ports p - 1
+      inside j e = let few = chosen-inside p d n (pos t) (s d) (i d) o j e in omega (arith, few)
+
+      shown : ((j : ℕ) → picked_port p d n (pos t) (s d) (i d) o ≡ Some j → value_of w v (out_flit p n names nets dest_bits d o) ≡ value_of w v (port_flit p n nets dest_bits d j))
+          × (picked_port p d n (pos t) (s d) (i d) o ≡ None → value_of w v (out_flit p n names nets dest_bits d o) ≡ 0)
+      shown = mux-shown w v (34 + dest_bits) (λ port. bit (names.switch d o).winner port) (port_flit p n nets dest_bits d) (ports p - 1) (picked_port p d n (pos t) (s d) (i d) o) inside (out-flit-bits o below)
+
+      go : (x : Option ℕ) → picked_port p d n (pos t) (s d) (i d) o ≡ x → value_of w v (out_flit p n names nets dest_bits d o) ≡ sent_code dest_bits (sent p d n (pos t) (s d) (i d) o)
+      go None e = shown.1 e ∙ sym (ap (sent_code dest_bits) (none-sent p d n (pos t) (s d) (i d) o e))
+      go (Some port) e =
+          let r = chosen-sends p d n (pos t) (s d) (i d) o port e in
+          let few = chosen-inside p d n (pos t) (s d) (i d) o port e in
+          let has : has_port p n d port ≡ true = port-has p n d port (leaves-there port r.c r.flit r.is_front).0 in
+          shown.0 port e ∙ ap (λ b. value_of w v (if b then net (nets.flit d port) else in_bits (34 + dest_bits) 0)) has
+          ∙ flit-is port r.c r.flit r.gone r.is_front few ∙ sym (ap (sent_code dest_bits) r.sends)
+
+  out-flit-wide : (o : ℕ) → width_of w (out_flit p n names nets dest_bits d o) ≡ 34 + dest_bits
+  out-flit-wide o = or-wide w (gated_words (34 + dest_bits) (λ port. bit (names.switch d o).winner port) (port_flit p n nets dest_bits d)) (ports p - 1) ∙ go (hosts p n d) refl
+    where
+      go : (b : Bool) → hosts p n d ≡ b → width_of w (if b then net (nets.flit d 0) else in_bits (34 + dest_bits) 0) ≡ 34 + dest_bits
+      go true e = (runs.flits 0 e).nets.0.0 ∙ omega arith
+      go false e = refl
+
+  -- a flit that is sent by a link goes in a channel of the domain
+  sent-few : (o : ℕ) → HasLink p n o → (x : LinkFlit) → sent p d n (pos t) (s d) (i d) o ≡ Some x → x.channel < link_channels p d
+  sent-few o link x e =
+      let from = sent-from p d n (pos t) (s d) (i d) o x e in
+      let below : x.channel < out_channels p d o = (subst (HasOutput p d n) from.active (tie.sound.stages from.port from.c)).1 in
+      at-link o (port-link p n o link) below
+    where
+      at-link : (o : ℕ) → o ≢ 0 → x.channel < out_channels p d o → x.channel < link_channels p d
+      at-link zero away few = absurd (away refl)
+      at-link (suc k) away few = few
+
+  pub sent-words : (o : ℕ) → HasLink p n o → v.net (nets.word d o) ≡ link_code (flit_code dest_bits) link_flit link_channel (sent p d n (pos t) (s d) (i d) o)
+  sent-words o link =
+      (runs.sends o link).nets.1.0
+      ∙ cat-three w v (or_upto (link_channels p d - 1) (λ k. net (nets.on d o k))) (out_channel p nets link_channel d o) (out_flit p n names nets dest_bits d o) link_channel link_flit
+      (or-wide w (gated_words link_channel (λ k. net (nets.on d o k)) (in_bits link_channel)) (link_channels p d - 1)) (out-flit-wide o ∙ sym fits.flits)
+      ∙ ap (λ m. m * 2 ^ (link_channel + link_flit) + (value_of w v (out_channel p nets link_channel d o) * 2 ^ link_flit + value_of w v (out_flit p n names nets dest_bits d o))) any
+      ∙ ap (λ m. one_if (is_some (sent p d n (pos t) (s d) (i d) o)) * 2 ^ (link_channel + link_flit) + (value_of w v (out_channel p nets link_channel d o) * 2 ^ link_flit + m)) (out-flit-is o link.0)
+      ∙ go (sent p d n (pos t) (s d) (i d) o) refl
+    where
+      l : 0 < link_channels p d
+      l = some-link-channels p d some
+
+      few : (x : LinkFlit) → sent p d n (pos t) (s d) (i d) o ≡ Some x → x.channel ≤ link_channels p d - 1
+      few x e = let below = sent-few o link x e in omega (arith, below)
+
+      ons : (k : ℕ) → k ≤ link_channels p d - 1 → v.net (nets.on d o k) ≡ one_if (is_on (sent p d n (pos t) (s d) (i d) o) k)
+      ons k le = on-is o k link (omega (arith, le, l))
+
+      any : value_of w v (or_upto (link_channels p d - 1) (λ k. net (nets.on d o k))) ≡ one_if (is_some (sent p d n (pos t) (s d) (i d) o))
+      any =
+          or-bits w v (λ k. net (nets.on d o k)) (is_on (sent p d n (pos t) (s d) (i d) o)) (link_channels p d - 1) ons
+          ∙ ap one_if (any-on (link_channels p d - 1) (sent p d n (pos t) (s d) (i d) o) few)
+
+      channel : (x : Option LinkFlit) → sent p d n (pos t) (s d) (i d) o ≡ x
+          → ((j : ℕ) → option_map (λ (y : LinkFlit). y.channel) x ≡ Some j → value_of w v (out_channel p nets link_channel d o) ≡ j) × (option_map (λ (y : LinkFlit). y.channel) x ≡ None → value_of w v (out_channel p nets link_channel d o) ≡ 0)
+      channel x e =
+          mux-shown w v link_channel (λ k. net (nets.on d o k)) (in_bits link_channel) (link_channels p d - 1) (option_map (λ (y : LinkFlit). y.channel) x)
+          (λ j is. inside x e j is) (λ k le. ons k le ∙ ap (λ y. one_if (is_on y k)) e ∙ ap one_if (on-place x k))
+        where
+          inside : (x : Option LinkFlit) → sent p d n (pos t) (s d) (i d) o ≡ x → (j : ℕ) → option_map (λ (y : LinkFlit). y.channel) x ≡ Some j → j ≤ link_channels p d - 1
+          inside None e j is = absurd (cc is)
+          inside (Some y) e j is = let below = few y e in let same : y.channel ≡ j = cc is in omega (arith, below, same)
+
+      go : (x : Option LinkFlit) → sent p d n (pos t) (s d) (i d) o ≡ x
+          → one_if (is_some x) * 2 ^ (link_channel + link_flit) + (value_of w v (out_channel p nets link_channel d o) * 2 ^ link_flit + sent_code dest_bits x) ≡ link_code (flit_code dest_bits) link_flit link_channel x
+      go None e = ap (λ m. 0 * 2 ^ (link_channel + link_flit) + (m * 2 ^ link_flit + 0)) ((channel None e).1 refl) ∙ omega arith
+      go (Some x) e =
+          ap (λ m. 1 * 2 ^ (link_channel + link_flit) + (m * 2 ^ link_flit + flit_code dest_bits x.flit)) ((channel (Some x) e).0 x.channel refl)
+          ∙ omega arith
 
   -- ---- buffers
 

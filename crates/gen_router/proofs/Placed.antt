@@ -1,20 +1,21 @@
 -- A bit for each place of a domain, and the bits of a buffer's word.
 use Rattle.std.proofs.Common.{◌≡◌, ℕ, zero, suc, ◌+◌, ◌-◌, ◌*◌, ◌/◌, ◌%◌, ◌<◌, ◌≤◌, ◌^◌, Bool, true, false, List, [], ◌∷◌, refl, sym, ◌∙◌, ap, arith, ◌==◌, ◌&&◌}
-use Rattle.std.specs.Prelude.{is_some, nat_lt, if◌then◌else◌}
+use Rattle.std.specs.Prelude.{Option, Some, None, option_map, is_some, nat_lt, if◌then◌else◌}
 use Rattle.std.proofs.lemmas.Bool.Decides.{nat_tests}
 use Rattle.std.proofs.lemmas.Nat.{mul-le, div-mul-add, pow-add}
 use Rattle.std.proofs.lemmas.Nat.Bits.{bit_at_cat_low, bit_at_cat_high}
-use Rattle.std.proofs.Math.Nat.{mod-eq_of_lt, mul-add-mod_self_right, mod-lt}
-use Rattle.vl_tree.specs.Values.{Expr, cat}
+use Rattle.std.proofs.Math.Nat.{mod-eq_of_lt, mul-add-mod_self_right, mod-lt, div-one}
+use Rattle.vl_tree.specs.Values.{Expr, cat, no_parts, parts}
 use Rattle.vl_model.specs.Meaning.{Widths, Values, value_of, width_of, one_if}
-use Rattle.gen_kit.specs.Families.{in_bits, row_parts}
+use Rattle.gen_kit.specs.Families.{in_bits, row_parts, or_upto, any_upto}
 use Rattle.gen_kit.specs.Masks.{mask}
 use Rattle.gen_kit.proofs.Sets.{mask-one, mask-bit}
-use Rattle.gen_kit.proofs.Families.{rows-shown, rows-wide}
+use Rattle.gen_kit.proofs.Families.{rows-shown, rows-wide, any-none, any-lone}
 use Rattle.noc_model.specs.declared.Flit.{Flit}
+use Rattle.noc_model.specs.declared.LinkFlit.{LinkFlit}
 use Rattle.noc_model.specs.Plan.{Plan, channels, link_channels, ports, hosts}
 use Rattle.noc_model.specs.Place.{neighbour, route}
-use Rattle.noc_model.specs.Step.{front, is_tail}
+use Rattle.noc_model.specs.Step.{front, is_tail, is_on, is_place}
 use Rattle.noc_model.proofs.Ports.{link-dim}
 use Rattle.gen_router.specs.Places.{leads}
 use Rattle.gen_router.specs.Tie.{HasPlace, flit_code, word_code}
@@ -176,3 +177,35 @@ front-tail (f ∷ fs) = refl
 pub front-leads : (p : Plan) (n o : ℕ) (q : List Flit) → on_front (λ f. route p n f.dest == o) q ≡ leads p n q o
 front-leads p n o [] = refl
 front-leads p n o (f ∷ fs) = refl
+
+-- the flit of a word
+pub flit-part : (p : Plan) (n b : ℕ) (f : Flit) → f.dest < 2 ^ b → f.payload < 2 ^ 32 → word_code p n b f / 2 ^ 0 % 2 ^ (33 + b - 0 + 1) ≡ flit_code b f
+flit-part p n b f hd hp =
+    let width : 33 + b - 0 + 1 ≡ 34 + b = omega arith in
+    ap (λ k. word_code p n b f / 2 ^ 0 % 2 ^ k) width ∙ ap (λ x. x % 2 ^ (34 + b)) (div-one (word_code p n b f))
+    ∙ mul-add-mod_self_right (2 ^ route p n f.dest) (2 ^ (34 + b)) (flit_code b f) ∙ mod-eq_of_lt (flit-small b f hd hp)
+
+-- ---- words of three parts, and chains of OR
+
+pub cat-three : (w : Widths) (v : Values) (a c f : Expr) (x y : ℕ) → width_of w c ≡ x → width_of w f ≡ y
+    → value_of w v (cat (parts a (parts c (parts f no_parts)))) ≡ value_of w v a * 2 ^ (x + y) + (value_of w v c * 2 ^ y + value_of w v f)
+cat-three w v a c f x y wide_c wide_f =
+    let none : width_of w f + 0 ≡ width_of w f = omega arith in
+    let alone : value_of w v f * 2 ^ 0 + 0 ≡ value_of w v f = omega arith in
+    ap (λ k. value_of w v a * 2 ^ (width_of w c + k) + (value_of w v c * 2 ^ k + (value_of w v f * 2 ^ 0 + 0))) (none ∙ wide_f)
+    ∙ ap (λ k. value_of w v a * 2 ^ (k + y) + (value_of w v c * 2 ^ y + (value_of w v f * 2 ^ 0 + 0))) wide_c
+    ∙ ap (λ k. value_of w v a * 2 ^ (x + y) + (value_of w v c * 2 ^ y + k)) alone
+
+pub or-wide : (w : Widths) (f : ℕ → Expr) (n : ℕ) → width_of w (or_upto n f) ≡ width_of w (f 0)
+or-wide w f zero = refl
+or-wide w f (suc n) = or-wide w f n
+
+pub any-on : (m : ℕ) (x : Option LinkFlit) → ((y : LinkFlit) → x ≡ Some y → y.channel ≤ m) → any_upto m (is_on x) ≡ is_some x
+any-on m None few = any-none m (λ k. false) (λ k le. refl)
+any-on m (Some y) few =
+    let self : (y.channel == y.channel) ≡ true = grind (arith, nat_tests) in
+    any-lone m y.channel (is_on (Some y)) (few y refl) (λ k other. (let differ : (y.channel == k) ≡ false = grind (arith, nat_tests) in differ)) ∙ self
+
+pub on-place : (x : Option LinkFlit) (k : ℕ) → is_on x k ≡ is_place (option_map (λ (y : LinkFlit). y.channel) x) k
+on-place None k = refl
+on-place (Some y) k = refl

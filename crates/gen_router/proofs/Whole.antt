@@ -19,13 +19,13 @@ use Rattle.gen_router.specs.Glue.{NetNames, link_names, LeafRuns, LeafBorrowed, 
 use Rattle.gen_router.proofs.Slotted.{slot-kept, slot-shown, leaving-owner, arriving-owner}
 use Rattle.gen_router.proofs.Linked.{link-kept, own-kept}
 use Rattle.gen_router.proofs.Started.{leaf-starts}
-use Rattle.gen_router.proofs.Glued.{domain-kept, port-link}
+use Rattle.gen_router.proofs.Glued.{domain-kept, sent-words, port-link}
 
 module _ (p : Plan) (n : ℕ) (names : LeafNames) (nets : NetNames) (q : PortNames) (base : ℕ → ℕ) (size : BufferSize) (slot_high dest_bits link_flit link_channel : ℕ) (enters : ℕ → ℕ → Expr)
     (w : Widths) (v u : Values) (t : ℕ) (s : ℕ → Tile) (i : ℕ → TileIn) (shared : ℕ → ℕ → Option LinkFlit)
     (sound : IsSound p) (inside : n < tiles p) (fits : GlueFits p size slot_high dest_bits link_flit link_channel)
     (runs : LeafRuns p n names nets q base size slot_high dest_bits link_flit link_channel enters w v u)
-    (more : LeafBorrowed p n names nets dest_bits link_flit link_channel enters w v u t s i)
+    (more : LeafBorrowed p n names nets dest_bits enters w v u t s i)
     (input : LeafIn p n q base dest_bits link_flit link_channel v t s i)
     (tie : LeafTie p n names size dest_bits link_flit link_channel v t s shared) where
   some : 1 ≤ length p.slots
@@ -57,7 +57,7 @@ module _ (p : Plan) (n : ℕ) (names : LeafNames) (nets : NetNames) (q : PortNam
   link o there =
       link-kept p n o (link_channel + link_flit) (length p.domains) (p.stages - 1) (link_code (flit_code dest_bits) link_flit link_channel) (link_names p n names nets o) (port-link p n o there)
       w v u (runs.rows o there).now (runs.rows o there).later (runs.rows o there).steps t s i (shared o)
-      (record { owned = λ e below. owns o e there below; words = λ e below. more.words e o below there; some_owner = some-owner o there })
+      (record { owned = λ e below. owns o e there below; words = λ e below. sent-words p n e names nets q base size slot_high dest_bits link_flit link_channel (enters e) w v u t s i sound below fits inside (runs.domains e below) (shown e below) (more.domains e below) input (tie.domains e below) o there; some_owner = some-owner o there })
       (record { places = λ j below. tie.rows o j there (omega (arith, below, last)); own = λ d j. tie.own d o j (port-link p n o there) })
 
   pub leaf-kept : LeafTie p n names size dest_bits link_flit link_channel u (suc t) (λ d. tile_step p d n (pos t) (s d) (i d)) (next_shared p n t s i shared)
@@ -72,7 +72,7 @@ module _ (p : Plan) (n : ℕ) (names : LeafNames) (nets : NetNames) (q : PortNam
 leaf-run : (p : Plan) (n : ℕ) (names : LeafNames) (nets : NetNames) (q : PortNames) (base : ℕ → ℕ) (size : BufferSize) (slot_high dest_bits link_flit link_channel : ℕ) (enters : ℕ → ℕ → Expr)
     (w : Widths) (v : ℕ → Values) (i : ℕ → ℕ → TileIn) → IsSound p → n < tiles p → GlueFits p size slot_high dest_bits link_flit link_channel
     → ((t : ℕ) → LeafRuns p n names nets q base size slot_high dest_bits link_flit link_channel enters w (v t) (v (suc t)))
-    → ((t : ℕ) → LeafBorrowed p n names nets dest_bits link_flit link_channel enters w (v t) (v (suc t)) t (state_at p n i t) (i t))
+    → ((t : ℕ) → LeafBorrowed p n names nets dest_bits enters w (v t) (v (suc t)) t (state_at p n i t) (i t))
     → ((t : ℕ) → LeafIn p n q base dest_bits link_flit link_channel (v t) t (state_at p n i t) (i t))
     → LeafTie p n names size dest_bits link_flit link_channel (v 0) 0 (state_at p n i 0) (rows_at p n i 0)
     → (t : ℕ) → LeafTie p n names size dest_bits link_flit link_channel (v t) t (state_at p n i t) (rows_at p n i t)
@@ -84,7 +84,7 @@ leaf-run p n names nets q base size slot_high dest_bits link_flit link_channel e
 pub leaf-run-reset : (p : Plan) (n : ℕ) (names : LeafNames) (nets : NetNames) (q : PortNames) (base : ℕ → ℕ) (size : BufferSize) (slot_high dest_bits link_flit link_channel : ℕ) (enters : ℕ → ℕ → Expr)
     (w : Widths) (v : ℕ → Values) (i : ℕ → ℕ → TileIn) → IsSound p → n < tiles p → GlueFits p size slot_high dest_bits link_flit link_channel
     → ((t : ℕ) → LeafRuns p n names nets q base size slot_high dest_bits link_flit link_channel enters w (v t) (v (suc t)))
-    → ((t : ℕ) → LeafBorrowed p n names nets dest_bits link_flit link_channel enters w (v t) (v (suc t)) t (state_at p n i t) (i t))
+    → ((t : ℕ) → LeafBorrowed p n names nets dest_bits enters w (v t) (v (suc t)) t (state_at p n i t) (i t))
     → ((t : ℕ) → LeafIn p n q base dest_bits link_flit link_channel (v t) t (state_at p n i t) (i t))
     → LeafStarts p n names nets q base size slot_high link_flit link_channel (v 0)
     → (t : ℕ) → LeafTie p n names size dest_bits link_flit link_channel (v t) t (state_at p n i t) (rows_at p n i t)

@@ -1,9 +1,10 @@
 -- One domain of a leaf: its groups over one set of names, and what the tie of the next cycle takes from outside them.
 use Rattle.std.specs.Prelude.{◌≡◌, ℕ, zero, suc, ◌+◌, ◌-◌, ◌*◌, ◌<◌, ◌≤◌, ◌^◌, Bool, true, List, [], ◌∷◌, length, Option, Some, None, is_some, nat_lt, if◌then◌else◌, ◌&&◌, ◌==◌, ℤ, pos, ◌-ℤ◌}
 use Rattle.vl_tree.specs.declared.tree.Op.TheVariants.{And, Or}
-use Rattle.vl_tree.specs.Values.{Name, Expr, net, bit, not, two, cat, wire, reg, assign, clocked}
+use Rattle.vl_tree.specs.Values.{Name, Expr, net, bit, part, not, two, cat, no_parts, parts, wire, reg, assign, clocked}
 use Rattle.vl_model.specs.Meaning.{Widths, Values, value_of, one_if}
-use Rattle.gen_kit.specs.Families.{in_bits}
+use Rattle.gen_kit.specs.Families.{in_bits, or_upto}
+use Rattle.gen_kit.specs.Mux.{gated_words}
 use Rattle.vl_model.specs.Parts.{AllReset}
 use Rattle.gen_buffer.specs.Fifo.{fifo_items}
 use Rattle.noc_model.specs.declared.Flit.{Flit}
@@ -17,11 +18,11 @@ use Rattle.gen_kit.specs.Rotate.{is_empty}
 use Rattle.gen_router.specs.Alloc.{alloc_group, out_count}
 use Rattle.gen_router.specs.Switch.{SwitchNames, SwitchSize, switch_group, ready_expr}
 use Rattle.gen_kit.specs.Families.{row_parts}
-use Rattle.gen_router.specs.Buffers.{BufferSize, buffer_group, arrival_push, is_filled, link_code}
+use Rattle.gen_router.specs.Buffers.{BufferSize, buffer_group, arrival_push, is_filled}
 use Rattle.gen_router.specs.Counts.{idle_group, credit_group}
 use Rattle.gen_router.specs.Slots.{leaving_slot, arriving_slot, slot_group}
 use Rattle.gen_router.specs.Links.{LinkNames, link_group}
-use Rattle.gen_router.specs.Tie.{LeafNames, PortNames, HasLink, HasPort, HasPlace, alloc_size, word_code, flit_code, ejected_code, PacketTie}
+use Rattle.gen_router.specs.Tie.{LeafNames, PortNames, HasLink, HasPort, HasPlace, alloc_size, word_code, ejected_code, PacketTie}
 
 -- the nets of a domain that are no registers
 pub record NetNames : Type 0 where
@@ -38,6 +39,7 @@ pub record NetNames : Type 0 where
   pub word : ℕ → ℕ → Name
   -- by domain and input port
   pub granted : ℕ → ℕ → Name
+  pub flit : ℕ → ℕ → Name
   -- by domain, output and channel
   pub on : ℕ → ℕ → ℕ → Name
 
@@ -80,9 +82,13 @@ out_high p d o = out_count (alloc_size p d o) - 1
 abbrev pub net_group : ℕ → Name → Expr → Group
 net_group h n e = record { heads = []; nets = wire h n ∷ assign n e ∷ []; moves = [] }
 
+-- whether the domain has the port there
+abbrev pub has_port : Plan → ℕ → ℕ → ℕ → Bool
+has_port p n d port = at_local port (hosts p n d) (is_some (neighbour p n port))
+
 -- whether the domain has the place there
 abbrev pub has_place : Plan → ℕ → ℕ → ℕ → ℕ → Bool
-has_place p n d port c = at_local port (hosts p n d) (is_some (neighbour p n port)) && nat_lt c (in_channels p d port)
+has_place p n d port c = has_port p n d port && nat_lt c (in_channels p d port)
 
 -- one bit of a place: a constant 0 where the domain doesn't have it
 abbrev pub placed : Plan → ℕ → ℕ → (ℕ → ℕ → Expr) → ℕ → ℕ → Expr
@@ -147,6 +153,33 @@ abbrev pub freed_group : Plan → LeafNames → NetNames → ℕ → ℕ → Gro
 freed_group p names nets d o = net_group (out_high p d o) (names.alloc d o).freed (cat (row_parts
     (some_active p names d o (nets.ends d)) (out_high p d o)))
 
+-- the flit that leaves an input port, and 0 where none does
+abbrev pub flit_group : Plan → LeafNames → NetNames → ℕ → ℕ → ℕ → Group
+flit_group p names nets dest_bits d port =
+    net_group (33 + dest_bits) (nets.flit d port) (or_upto (in_channels p d port - 1) (gated_words (34 + dest_bits)
+    (λ c. bit (nets.granted d port) c) (λ c. part (names.buffer d port c).front (33 + dest_bits) 0)))
+
+-- the flit of an input port: a port that is not there has none
+abbrev pub port_flit : Plan → ℕ → NetNames → ℕ → ℕ → ℕ → Expr
+port_flit p n nets dest_bits d port = if has_port p n d port then net (nets.flit d port) else in_bits (34 + dest_bits) 0
+
+-- the flit that goes by an output, and 0 where none does
+abbrev pub out_flit : Plan → ℕ → LeafNames → NetNames → ℕ → ℕ → ℕ → Expr
+out_flit p n names nets dest_bits d o = or_upto (ports p - 1) (gated_words (34 + dest_bits)
+    (λ port. bit (names.switch d o).winner port) (port_flit p n nets dest_bits d))
+
+-- the number of the channel that a flit goes by, and 0 where none does
+abbrev pub out_channel : Plan → NetNames → ℕ → ℕ → ℕ → Expr
+out_channel p nets link_channel d o = or_upto (link_channels p d - 1) (gated_words link_channel
+    (λ k. net (nets.on d o k)) (in_bits link_channel))
+
+-- the word that the domain sends by a link: whether there is one, its channel, its flit
+abbrev pub word_group : Plan → ℕ → LeafNames → NetNames → ℕ → ℕ → ℕ → ℕ → ℕ → Group
+word_group p n names nets dest_bits link_flit link_channel d o =
+    net_group (link_channel + link_flit) (nets.word d o) (cat (parts (or_upto (link_channels p d - 1) (λ k. net
+    (nets.on d o k))) (parts (out_channel p nets link_channel d o) (parts (out_flit p n names nets dest_bits d o)
+    no_parts))))
+
 -- the credit pulses of an input port: the channels that a flit leaves
 abbrev pub pulse_group : Plan → LeafNames → NetNames → ℕ → ℕ → Group
 pulse_group p names nets d port = record {
@@ -195,6 +228,9 @@ pub record DomainRuns (p : Plan) (n d : ℕ) (names : LeafNames) (nets : NetName
   pub unready : (o : ℕ) → o < ports p → (HasPort p n d o → ⊥) → HoldsIn (unready_group p nets d o) w v
   pub on : (o x : ℕ) → HasLink p n o → x < link_channels p d → HoldsIn (on_group p names nets d o x) w v
   pub freed : (o : ℕ) → HasPort p n d o → HoldsIn (freed_group p names nets d o) w v
+  pub flits : (port : ℕ) → HasPort p n d port → HoldsIn (flit_group p names nets dest_bits d port) w v
+  pub sends : (o : ℕ) → HasLink p n o
+      → HoldsIn (word_group p n names nets dest_bits link_flit link_channel d o) w v
   pub credits : (o x : ℕ) → HasLink p n o → x < link_channels p d
       → Moves (credit_group (names.credits d o x) (bit (q.credit_in o (base d + x)) (q.credit_bit (base d + x)))
       (net (nets.on d o x)) size.lh p.buffer) w v u
@@ -255,14 +291,10 @@ pub record LeafRuns (p : Plan) (n : ℕ) (names : LeafNames) (nets : NetNames) (
 
 -- what groups show that are not here yet
 pub record LeafBorrowed (p : Plan) (n : ℕ) (names : LeafNames) (nets : NetNames)
-    (dest_bits link_flit link_channel : ℕ) (enters : ℕ → ℕ → Expr) (w : Widths) (v u : Values) (t : ℕ) (s : ℕ
+    (dest_bits : ℕ) (enters : ℕ → ℕ → Expr) (w : Widths) (v u : Values) (t : ℕ) (s : ℕ
     → Tile) (i : ℕ → TileIn) : Type 0 where
   pub domains : (d : ℕ) → d < length p.domains → Borrowed p n d names nets dest_bits (enters d) w v u (pos t) (s d)
       (i d)
-  -- flits and link words
-  pub words : (d o : ℕ) → d < length p.domains → HasLink p n o
-      → v.net (nets.word d o) ≡ link_code (flit_code dest_bits) link_flit link_channel (sent p d n (pos t) (s d)
-      (i d) o)
 
 -- the rows after a shift: what the owner sends enters
 abbrev pub next_shared : Plan → ℕ → ℕ → (ℕ → Tile) → (ℕ → TileIn) → (ℕ → ℕ → Option LinkFlit) → ℕ → ℕ → Option LinkFlit

@@ -162,7 +162,7 @@ LeafKept = (p : Plan) (n : ℕ) (names : LeafNames) (nets : NetNames) (q : PortN
     (w : Widths) (v u : Values) (t : ℕ) (s : ℕ → Tile) (i : ℕ → TileIn) (shared : ℕ → ℕ → Option LinkFlit)
     → IsSound p → n < tiles p → GlueFits p size slot_high dest_bits link_flit link_channel
     → LeafRuns p n names nets q base size slot_high dest_bits link_flit link_channel enters w v u
-    → LeafBorrowed p n names nets dest_bits link_flit link_channel enters w v u t s i
+    → LeafBorrowed p n names nets dest_bits enters w v u t s i
     → LeafIn p n q base dest_bits link_flit link_channel v t s i
     → LeafTie p n names size dest_bits link_flit link_channel v t s shared
     → LeafTie p n names size dest_bits link_flit link_channel u (suc t) (λ d. tile_step p d n (pos t) (s d) (i d))
@@ -175,7 +175,7 @@ LeafRun = (p : Plan) (n : ℕ) (names : LeafNames) (nets : NetNames) (q : PortNa
     (w : Widths) (v : ℕ → Values) (i : ℕ → ℕ → TileIn) → IsSound p → n < tiles p
     → GlueFits p size slot_high dest_bits link_flit link_channel
     → ((t : ℕ) → LeafRuns p n names nets q base size slot_high dest_bits link_flit link_channel enters w (v t) (v (suc t)))
-    → ((t : ℕ) → LeafBorrowed p n names nets dest_bits link_flit link_channel enters w (v t) (v (suc t)) t
+    → ((t : ℕ) → LeafBorrowed p n names nets dest_bits enters w (v t) (v (suc t)) t
     (state_at p n i t) (i t))
     → ((t : ℕ) → LeafIn p n q base dest_bits link_flit link_channel (v t) t (state_at p n i t) (i t))
     → LeafStarts p n names nets q base size slot_high link_flit link_channel (v 0)
