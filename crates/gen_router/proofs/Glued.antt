@@ -16,13 +16,14 @@ use Rattle.noc_model.specs.Place.{neighbour, opposite, owner, route}
 use Rattle.noc_model.specs.Sound.{IsSound}
 use Rattle.noc_model.specs.SoundState.{HasOutput, IsOutput, IsSoundTile, GoesHome}
 use Rattle.noc_model.specs.Tile.{Tile, TileIn}
-use Rattle.noc_model.specs.Step.{chosen as picked_port, is_place, takes, is_ready, is_ready_at, leaves, front, is_tail, comes_in, sent, is_on, is_tail_on, tile_step}
+use Rattle.noc_model.specs.Step.{chosen as picked_port, is_place, takes, is_ready, is_ready_at, leaves, front, is_tail, comes_in, flit_on, sent, is_on, is_tail_on, tile_step}
 use Rattle.noc_model.proofs.Coords.{positive}
 use Rattle.noc_model.specs.declared.Grant.{Grant}
 use Rattle.noc_model.proofs.Switch.{chosen-inside}
 use Rattle.noc_model.proofs.Ports.{link-dim, linked-port}
 use Rattle.noc_model.proofs.StateKept.{some-channels}
 use Rattle.noc_model.proofs.TileKept.{tile_step-sound}
+use Rattle.gen_kit.specs.Groups.{HoldsIn}
 use Rattle.gen_kit.specs.Masks.{mask}
 use Rattle.gen_kit.specs.Rotate.{PointsTo}
 use Rattle.gen_kit.specs.Families.{in_bits, or_upto}
@@ -33,7 +34,7 @@ use Rattle.gen_router.specs.Alloc.{AllocIn, AllocTie, out_count}
 use Rattle.gen_router.specs.Switch.{goes_by, ready_for, ReadyIn, SwitchIn, place_count}
 use Rattle.gen_router.specs.Buffers.{BufferSize, BufferTie, is_filled, link_code}
 use Rattle.gen_router.specs.Tie.{LeafNames, PortNames, HasLink, HasPort, HasPlace, alloc_size, DomainTie, LeafIn, PortIn, word_code, flit_code, ejected_code, IsWord}
-use Rattle.gen_router.specs.Glue.{NetNames, switch_names, switch_size, high, out_high, has_port, has_place, front_bits, port_flit, out_flit, out_channel, able, some_active, DomainRuns, SlotsShown, Borrowed, GlueFits, link_push, pop_of}
+use Rattle.gen_router.specs.Glue.{NetNames, switch_names, switch_size, high, out_high, arrival_group, route_bits, has_port, has_place, front_bits, port_flit, out_flit, out_channel, able, some_active, DomainRuns, SlotsShown, Borrowed, GlueFits, link_push, pop_of}
 use Rattle.gen_kit.proofs.Sets.{mask-same, mask-and, mask-none, mask-bit}
 use Rattle.gen_kit.proofs.Families.{rows-shown, bit-or, or-bits}
 use Rattle.gen_router.proofs.Allocated.{alloc-kept}
@@ -46,7 +47,7 @@ use Rattle.gen_router.proofs.Sized.{high-is, place_count-is, in_few, out-link, f
 use Rattle.gen_router.proofs.Homes.{away-home, host-tile}
 use Rattle.gen_buffer.specs.Fifo.{fifo_items, WordsAre}
 use Rattle.vl_model.specs.Parts.{AllHold}
-use Rattle.gen_router.proofs.Placed.{one-bit, row-of, channel-of, place-there, place-not, place-bits-shown, bit-is, bit-one, tail-bit, route-bit, flit-small, flit-part, cat-three, or-wide, any-on, on-place, on_front, front-tail, front-leads}
+use Rattle.gen_router.proofs.Placed.{one-bit, row-of, channel-of, place-there, place-not, place-bits-shown, bit-is, bit-one, tail-bit, route-bit, flit-small, flit-part, cat-two, cat-three, link-word, routed-to, or-wide, any-on, on-place, on_front, front-tail, front-leads}
 use Rattle.gen_router.proofs.Steps.{MayCome, comes-room, absent-kept, within-kept, short-kept, words-kept, away-kept}
 
 -- ---- ports
@@ -150,6 +151,7 @@ module _ (p : Plan) (n d : ℕ) (names : LeafNames) (nets : NetNames) (q : PortN
     (sound : IsSound p) (there : d < length p.domains) (fits : GlueFits p size slot_high dest_bits link_flit link_channel)
     (here : n < tiles p)
     (runs : DomainRuns p n d names nets q base size dest_bits link_flit link_channel enters w v u)
+    (arrivals : (port : ℕ) → HasLink p n port → HoldsIn (arrival_group p n nets q size dest_bits port) w v)
     (slots : SlotsShown p n d names v (pos t))
     (more : Borrowed p n d names nets dest_bits enters w v u (pos t) (s d) (i d))
     (input : LeafIn p n q base dest_bits link_flit link_channel v t s i)
@@ -591,6 +593,51 @@ module _ (p : Plan) (n d : ℕ) (names : LeafNames) (nets : NetNames) (q : PortN
   room : (port c : ℕ) → is_filled (comes_in p d (s d) (i d) port c) ≡ true → length ((s d).queue port c) < p.buffer
   room port c e = comes-room p n d (s d) (i d) port c may e
 
+  -- the word of a flit that comes by a link
+  arrived-word : (port m c : ℕ) (f : Flit) → neighbour p n port ≡ Some m → flit_on ((i d).arrives port) c ≡ f ∷ [] → v.net (names.buffer d port c).word ≡ word_code p n dest_bits f
+  arrived-word port m c f e comes = go ((i d).arrives port) refl comes
+    where
+      there_link : HasLink p n port
+      there_link = link-there p n port m e
+
+      nets_hold : HoldsIn (arrival_group p n nets q size dest_bits port) w v
+      nets_hold = arrivals port there_link
+
+      flit-is-one : (x : LinkFlit) → flit_on (Some x) c ≡ f ∷ [] → x.flit ≡ f
+      flit-is-one x h = inner (x.channel == c) h
+        where
+          inner : (b : Bool) → (if b then x.flit ∷ [] else []) ≡ f ∷ [] → x.flit ≡ f
+          inner true k = cc k
+          inner false k = absurd (cc k)
+
+      on-port : (x : LinkFlit) → (i d).arrives port ≡ Some x → (input.links port m e).0 ≡ Some x
+      on-port x is = inner (owner p m (opposite port) (pos t -ℤ pos p.stages) == d) (sym ((input.links port m e).1.its_own d) ∙ is)
+        where
+          inner : (b : Bool) → (if b then (input.links port m e).0 else None) ≡ Some x → (input.links port m e).0 ≡ Some x
+          inner true k = k
+          inner false k = absurd (cc k)
+
+      stored : (x : LinkFlit) → (i d).arrives port ≡ Some x → v.net (names.buffer d port c).word ≡ word_code p n dest_bits x.flit
+      stored x is =
+          let word = on-port x is in
+          let channel = (input.links port m e).1.channel d x is in
+          let inside = host-tile p x.flit.dest d sound channel.2 in
+          let most = fits.dests in
+          let dest_fits : x.flit.dest < 2 ^ dest_bits = omega (arith, inside, most) in
+          let shown : v.net (q.link_in port) ≡ 2 ^ (link_channel + (34 + dest_bits)) + (x.channel * 2 ^ (34 + dest_bits) + flit_code dest_bits x.flit) =
+          (input.links port m e).1.shown ∙ ap (link_code (flit_code dest_bits) link_flit link_channel) word ∙ ap (λ k. link_code (flit_code dest_bits) k link_channel (Some x)) fits.flits in
+          let held = link-word dest_bits link_channel x.channel x.flit fits.some_dest dest_fits ((input.links port m e).1.payload x word) in
+          let wide : 33 + dest_bits - 0 + 1 ≡ 34 + dest_bits = omega arith in
+          ap v.net (runs.one_word port c there_link) ∙ nets_hold.nets.1.1.1.0
+          ∙ cat-two w v (route_bits p n (nets.goal port) dest_bits) (part (q.link_in port) (33 + dest_bits) 0) (34 + dest_bits) wide
+          ∙ ap (λ k. k * 2 ^ (34 + dest_bits) + v.net (q.link_in port) / 2 ^ 0 % 2 ^ (33 + dest_bits - 0 + 1))
+          (routed-to p n dest_bits w v (nets.goal port) x.flit.dest (nets_hold.nets.1.0 ∙ ap (λ k. k / 2 ^ 32 % 2 ^ (31 + dest_bits - 32 + 1)) shown ∙ held.dest) dest_fits)
+          ∙ ap (λ k. 2 ^ route p n x.flit.dest * 2 ^ (34 + dest_bits) + k) (ap (λ k. k / 2 ^ 0 % 2 ^ (33 + dest_bits - 0 + 1)) shown ∙ held.flit)
+
+      go : (o : Option LinkFlit) → (i d).arrives port ≡ o → flit_on o c ≡ f ∷ [] → v.net (names.buffer d port c).word ≡ word_code p n dest_bits f
+      go None is h = absurd (cc h)
+      go (Some x) is h = stored x is ∙ ap (word_code p n dest_bits) (flit-is-one x h)
+
   queue-kept : (port c : ℕ) → HasPlace p n d port c → BufferTie (word_code p n dest_bits) (names.buffer d port c) size u (next.queue port c)
   unfolding next
   queue-kept zero c place =
@@ -598,7 +645,7 @@ module _ (p : Plan) (n d : ℕ) (names : LeafNames) (nets : NetNames) (q : PortN
       buffer-kept p d n 0 c (word_code p n dest_bits) (names.buffer d 0 c) size (enters c) (pop_of p nets d 0 c) fits.pointers fits.counts w v u run.now run.later run.steps (pos t) (s d) (i d)
       (record {
         push = run.now.nets.0 ∙ more.pushes c place.0 place.1;
-        word = λ f e. more.words 0 c f place e;
+        word = λ f e. more.words c f place e;
         pop = run.now.nets.1.0 ∙ pop-is 0 c place;
         short = tie.short 0 c;
         room = room 0 c;
@@ -616,7 +663,7 @@ module _ (p : Plan) (n d : ℕ) (names : LeafNames) (nets : NetNames) (q : PortN
             push = run.now.nets.0
                 ∙ arrival-pushes (flit_code dest_bits) link_flit link_channel _ (q.link_in (suc port)) w v (owner p m (opposite (suc port)) (pos t -ℤ pos p.stages) == d) link.0 ((i d).arrives (suc port)) c fits.some_channel
                 (record { owned = slots.arriving (suc port) m e; shown = link.1.shown; its_own = link.1.its_own d; fits = link-fits (suc port) m e });
-            word = λ x is. more.words (suc port) c x place is;
+            word = λ x is. arrived-word (suc port) m c x e is;
             pop = run.now.nets.1.0 ∙ pop-is (suc port) c place;
             short = tie.short (suc port) c;
             room = room (suc port) c;

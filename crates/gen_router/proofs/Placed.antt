@@ -1,11 +1,11 @@
 -- A bit for each place of a domain, and the bits of a buffer's word.
-use Rattle.std.proofs.Common.{◌≡◌, ℕ, zero, suc, ◌+◌, ◌-◌, ◌*◌, ◌/◌, ◌%◌, ◌<◌, ◌≤◌, ◌^◌, Bool, true, false, List, [], ◌∷◌, refl, sym, ◌∙◌, ap, arith, ◌==◌, ◌&&◌}
+use Rattle.std.proofs.Common.{subst, ◌≡◌, ℕ, zero, suc, ◌+◌, ◌-◌, ◌*◌, ◌/◌, ◌%◌, ◌<◌, ◌≤◌, ◌^◌, Bool, true, false, List, [], ◌∷◌, refl, sym, ◌∙◌, ap, arith, ◌==◌, ◌&&◌}
 use Rattle.std.specs.Prelude.{Option, Some, None, option_map, is_some, nat_lt, if◌then◌else◌}
 use Rattle.std.proofs.lemmas.Bool.Decides.{nat_tests}
-use Rattle.std.proofs.lemmas.Nat.{mul-le, div-mul-add, pow-add}
+use Rattle.std.proofs.lemmas.Nat.{mul-le, div-mul-add, pow-add, field_of}
 use Rattle.std.proofs.lemmas.Nat.Bits.{bit_at_cat_low, bit_at_cat_high}
 use Rattle.std.proofs.Math.Nat.{mod-eq_of_lt, mul-add-mod_self_right, mod-lt, div-one}
-use Rattle.vl_tree.specs.Values.{Expr, cat, no_parts, parts}
+use Rattle.vl_tree.specs.Values.{Name, Expr, cat, no_parts, parts}
 use Rattle.vl_model.specs.Meaning.{Widths, Values, value_of, width_of, one_if}
 use Rattle.gen_kit.specs.Families.{in_bits, row_parts, or_upto, any_upto}
 use Rattle.gen_kit.specs.Masks.{mask}
@@ -19,7 +19,8 @@ use Rattle.noc_model.specs.Step.{front, is_tail, is_on, is_place}
 use Rattle.noc_model.proofs.Ports.{link-dim}
 use Rattle.gen_router.specs.Places.{leads}
 use Rattle.gen_router.specs.Tie.{HasPlace, flit_code, word_code}
-use Rattle.gen_router.specs.Glue.{high, has_place, placed, place_bits}
+use Rattle.gen_router.specs.Glue.{high, has_place, placed, place_bits, route_bits}
+use Rattle.gen_kit.proofs.Muxed.{table-shown}
 use Rattle.gen_router.proofs.Sized.{high-is, some-link-channels}
 
 pub one-bit : (f : ℕ → Bool) (k : ℕ) → one_if (f k) ≡ mask 1 (λ j. f (k * 1 + j))
@@ -209,3 +210,66 @@ any-on m (Some y) few =
 pub on-place : (x : Option LinkFlit) (k : ℕ) → is_on x k ≡ is_place (option_map (λ (y : LinkFlit). y.channel) x) k
 on-place None k = refl
 on-place (Some y) k = refl
+
+-- ---- what is in a link's word
+
+-- the destination and the flit
+pub record IsLinkWord (b word : ℕ) (f : Flit) : Type 0 where
+  pub dest : word / 2 ^ 32 % 2 ^ (31 + b - 32 + 1) ≡ f.dest
+  pub flit : word / 2 ^ 0 % 2 ^ (33 + b - 0 + 1) ≡ flit_code b f
+
+pub link-word : (b cb ch : ℕ) (f : Flit) → 1 ≤ b → f.dest < 2 ^ b → f.payload < 2 ^ 32 → IsLinkWord b (2 ^ (cb + (34 + b)) + (ch * 2 ^ (34 + b) + flit_code b f)) f
+link-word b cb ch f some hd hp = record {
+  dest = ap (λ k. whole / 2 ^ 32 % 2 ^ k) narrow ∙ sym (field_of whole b 32) ∙ ap (λ x. x % 2 ^ (b + 32) / 2 ^ 32) low
+      ∙ ap (λ x. x / 2 ^ 32) (mul-add-mod_self_right upper (2 ^ (b + 32)) (f.dest * 2 ^ 32 + f.payload) ∙ mod-eq_of_lt small)
+      ∙ div-mul-add f.dest (2 ^ 32) f.payload hp;
+  flit = ap (λ k. whole / 2 ^ 0 % 2 ^ k) wide ∙ ap (λ x. x % 2 ^ (34 + b)) (div-one whole ∙ high)
+      ∙ mul-add-mod_self_right (2 ^ cb + ch) (2 ^ (34 + b)) (flit_code b f) ∙ mod-eq_of_lt (flit-small b f hd hp);
+}
+  where
+    whole : ℕ
+    whole = 2 ^ (cb + (34 + b)) + (ch * 2 ^ (34 + b) + flit_code b f)
+
+    upper : ℕ
+    upper = (2 ^ cb + ch) * 4 + (one_if f.head * 2 + one_if f.tail)
+
+    narrow : 31 + b - 32 + 1 ≡ b
+    narrow = omega (arith, some)
+
+    wide : 33 + b - 0 + 1 ≡ 34 + b
+    wide = omega arith
+
+    turned : b + 32 ≡ 32 + b
+    turned = omega arith
+
+    small : f.dest * 2 ^ 32 + f.payload < 2 ^ (b + 32)
+    small = subst (λ k. f.dest * 2 ^ 32 + f.payload < 2 ^ k) (sym turned) (low-small b f.dest f.payload hd hp)
+
+    high : 2 ^ (cb + (34 + b)) + (ch * 2 ^ (34 + b) + flit_code b f) ≡ (2 ^ cb + ch) * 2 ^ (34 + b) + flit_code b f
+    high = ap (λ x. x + (ch * 2 ^ (34 + b) + flit_code b f)) (pow-add 2 cb (34 + b)) ∙ regroup (2 ^ cb) ch (2 ^ (34 + b)) (flit_code b f)
+      where
+        regroup : (x c k y : ℕ) → x * k + (c * k + y) ≡ (x + c) * k + y
+        regroup x c k y = grind arith
+
+    low : 2 ^ (cb + (34 + b)) + (ch * 2 ^ (34 + b) + flit_code b f) ≡ upper * 2 ^ (b + 32) + (f.dest * 2 ^ 32 + f.payload)
+    low =
+        let same : 34 + b ≡ 2 + (b + 32) = omega arith in
+        let parts_of : 2 ^ (34 + b) ≡ 4 * 2 ^ (b + 32) = ap (λ k. 2 ^ k) same ∙ pow-add 2 2 (b + 32) in
+        high ∙ ap (λ k. (2 ^ cb + ch) * k + flit_code b f) parts_of
+        ∙ ap (λ y. (2 ^ cb + ch) * (4 * 2 ^ (b + 32)) + y) (split-code b f ∙ ap (λ k. (one_if f.head * 2 + one_if f.tail) * 2 ^ k + (f.dest * 2 ^ 32 + f.payload)) (sym turned))
+        ∙ regroup (2 ^ cb + ch) (one_if f.head * 2 + one_if f.tail) (2 ^ (b + 32)) (f.dest * 2 ^ 32 + f.payload)
+      where
+        regroup : (x h k y : ℕ) → x * (4 * k) + (h * k + y) ≡ (x * 4 + h) * k + y
+        regroup x h k y = grind arith
+
+-- route bits above a flit
+pub cat-two : (w : Widths) (v : Values) (a f : Expr) (y : ℕ) → width_of w f ≡ y → value_of w v (cat (parts a (parts f no_parts))) ≡ value_of w v a * 2 ^ y + value_of w v f
+cat-two w v a f y wide_f =
+    let none : width_of w f + 0 ≡ width_of w f = omega arith in
+    let alone : value_of w v f * 2 ^ 0 + 0 ≡ value_of w v f = omega arith in
+    ap (λ k. value_of w v a * 2 ^ k + (value_of w v f * 2 ^ 0 + 0)) (none ∙ wide_f) ∙ ap (λ k. value_of w v a * 2 ^ y + k) alone
+
+pub routed-to : (p : Plan) (n b : ℕ) (w : Widths) (v : Values) (dest : Name) (to : ℕ) → v.net dest ≡ to → to < 2 ^ b → value_of w v (route_bits p n dest b) ≡ 2 ^ route p n to
+routed-to p n b w v dest to e below =
+    let at : v.net dest / 2 ^ 0 ≡ to = div-one (v.net dest) ∙ e in
+    table-shown w v dest (ports p) (λ x. 2 ^ route p n x) 0 b (subst (λ k. k < 2 ^ b) (sym at) below) ∙ ap (λ x. 2 ^ route p n x) at

@@ -57,7 +57,7 @@ module _ (p : Plan) (n : ℕ) (names : LeafNames) (nets : NetNames) (q : PortNam
   link o there =
       link-kept p n o (link_channel + link_flit) (length p.domains) (p.stages - 1) (link_code (flit_code dest_bits) link_flit link_channel) (link_names p n names nets o) (port-link p n o there)
       w v u (runs.rows o there).now (runs.rows o there).later (runs.rows o there).steps t s i (shared o)
-      (record { owned = λ e below. owns o e there below; words = λ e below. sent-words p n e names nets q base size slot_high dest_bits link_flit link_channel (enters e) w v u t s i sound below fits inside (runs.domains e below) (shown e below) (more.domains e below) input (tie.domains e below) o there; some_owner = some-owner o there })
+      (record { owned = λ e below. owns o e there below; words = λ e below. sent-words p n e names nets q base size slot_high dest_bits link_flit link_channel (enters e) w v u t s i sound below fits inside (runs.domains e below) runs.arrivals (shown e below) (more.domains e below) input (tie.domains e below) o there; some_owner = some-owner o there })
       (record { places = λ j below. tie.rows o j there (omega (arith, below, last)); own = λ d j. tie.own d o j (port-link p n o there) })
 
   pub leaf-kept : LeafTie p n names size dest_bits link_flit link_channel u (suc t) (λ d. tile_step p d n (pos t) (s d) (i d)) (next_shared p n t s i shared)
@@ -66,7 +66,7 @@ module _ (p : Plan) (n : ℕ) (names : LeafNames) (nets : NetNames) (q : PortNam
     arriving = λ port m e. slot-kept (names.slot (arriving_slot p m (opposite port))) slot_high p.slots (length p.domains) (arriving_slot p m (opposite port)) some fits.slots w v u (runs.arriving port m e).now (runs.arriving port m e).later (runs.arriving port m e).steps t (tie.arriving port m e);
     rows = λ o j there below. (link o there).places j (omega (arith, below, last));
     own = λ d o j away. own-kept p n o t s i (shared o) away (λ e k. tie.own e o k away) d j;
-    domains = λ d below. domain-kept p n d names nets q base size slot_high dest_bits link_flit link_channel (enters d) w v u t s i sound below fits inside (runs.domains d below) (shown d below) (more.domains d below) input (tie.domains d below);
+    domains = λ d below. domain-kept p n d names nets q base size slot_high dest_bits link_flit link_channel (enters d) w v u t s i sound below fits inside (runs.domains d below) runs.arrivals (shown d below) (more.domains d below) input (tie.domains d below);
   }
 
 leaf-run : (p : Plan) (n : ℕ) (names : LeafNames) (nets : NetNames) (q : PortNames) (base : ℕ → ℕ) (size : BufferSize) (slot_high dest_bits link_flit link_channel : ℕ) (enters : ℕ → ℕ → Expr)

@@ -4,13 +4,13 @@ use Rattle.vl_tree.specs.declared.tree.Op.TheVariants.{And, Or}
 use Rattle.vl_tree.specs.Values.{Name, Expr, net, bit, part, not, two, cat, no_parts, parts, wire, reg, assign, clocked}
 use Rattle.vl_model.specs.Meaning.{Widths, Values, value_of, one_if}
 use Rattle.gen_kit.specs.Families.{in_bits, or_upto}
-use Rattle.gen_kit.specs.Mux.{gated_words}
+use Rattle.gen_kit.specs.Mux.{gated_words, table}
 use Rattle.vl_model.specs.Parts.{AllReset}
 use Rattle.gen_buffer.specs.Fifo.{fifo_items}
 use Rattle.noc_model.specs.declared.Flit.{Flit}
 use Rattle.noc_model.specs.declared.LinkFlit.{LinkFlit}
 use Rattle.noc_model.specs.Plan.{Plan, channels, link_channels, ports, in_channels, at_local, hosts, tiles}
-use Rattle.noc_model.specs.Place.{neighbour, opposite, owner}
+use Rattle.noc_model.specs.Place.{neighbour, opposite, owner, route}
 use Rattle.noc_model.specs.Tile.{Tile, TileIn, start_tile}
 use Rattle.noc_model.specs.Step.{comes_in, sent, shifted, tile_step}
 use Rattle.gen_kit.specs.Groups.{Group, HoldsIn, StepsIn}
@@ -40,6 +40,9 @@ pub record NetNames : Type 0 where
   -- by domain and input port
   pub granted : ℕ → ℕ → Name
   pub flit : ℕ → ℕ → Name
+  -- by arriving port: where its flit goes, and the word that is stored
+  pub goal : ℕ → Name
+  pub stored : ℕ → Name
   -- by domain, output and channel
   pub on : ℕ → ℕ → ℕ → Name
 
@@ -180,6 +183,22 @@ word_group p n names nets dest_bits link_flit link_channel d o =
     (nets.on d o k))) (parts (out_channel p nets link_channel d o) (parts (out_flit p n names nets dest_bits d o)
     no_parts))))
 
+-- the route bits of a destination: a table by its bits
+abbrev pub route_bits : Plan → ℕ → Name → ℕ → Expr
+route_bits p n dest dest_bits = table dest (ports p) (λ to. 2 ^ route p n to) 0 dest_bits
+
+-- where the flit goes that arrives by a link, and the word of it that a buffer stores
+abbrev pub arrival_group : Plan → ℕ → NetNames → PortNames → BufferSize → ℕ → ℕ → Group
+arrival_group p n nets q size dest_bits port = record {
+  heads = [];
+  nets =
+      wire (dest_bits - 1) (nets.goal port) ∷ assign (nets.goal port) (part (q.link_in port) (31 + dest_bits) 32)
+      ∷ wire size.wh (nets.stored port) ∷ assign (nets.stored port) (cat (parts (route_bits p n (nets.goal port)
+      dest_bits) (parts (part (q.link_in port) (33 + dest_bits) 0) no_parts)))
+      ∷ [];
+  moves = [];
+}
+
 -- the credit pulses of an input port: the channels that a flit leaves
 abbrev pub pulse_group : Plan → LeafNames → NetNames → ℕ → ℕ → Group
 pulse_group p names nets d port = record {
@@ -235,6 +254,7 @@ pub record DomainRuns (p : Plan) (n d : ℕ) (names : LeafNames) (nets : NetName
       → Moves (credit_group (names.credits d o x) (bit (q.credit_in o (base d + x)) (q.credit_bit (base d + x)))
       (net (nets.on d o x)) size.lh p.buffer) w v u
   pub pulses : (port : ℕ) → HasLink p n port → Moves (pulse_group p names nets d port) w v u
+  pub one_word : (port c : ℕ) → HasLink p n port → (names.buffer d port c).word ≡ nets.stored port
   pub linked : (port m c : ℕ) → neighbour p n port ≡ Some m → c < link_channels p d
       → Moves (buffer_group (names.buffer d port c) size (link_push p names q link_flit link_channel d port m c)
       (pop_of p nets d port c)) w v u
@@ -253,8 +273,8 @@ pub record Borrowed (p : Plan) (n d : ℕ) (names : LeafNames) (nets : NetNames)
   -- what is stored
   pub pushes : (c : ℕ) → hosts p n d ≡ true → c < channels p d
       → value_of w v (enters c) ≡ one_if (is_filled (comes_in p d s i 0 c))
-  pub words : (port c : ℕ) (f : Flit) → HasPlace p n d port c → comes_in p d s i port c ≡ f ∷ []
-      → v.net (names.buffer d port c).word ≡ word_code p n dest_bits f
+  pub words : (c : ℕ) (f : Flit) → HasPlace p n d 0 c → comes_in p d s i 0 c ≡ f ∷ []
+      → v.net (names.buffer d 0 c).word ≡ word_code p n dest_bits f
   -- the attachment and the ejection place after the edge
   pub packet : hosts p n d ≡ true → PacketTie (names.passing d) (names.dropping d) (names.dest d) u
       (tile_step p d n t s i).packet
@@ -268,6 +288,7 @@ pub record GlueFits (p : Plan) (size : BufferSize) (slot_high dest_bits link_fli
   pub pointers : p.buffer ≤ 2 ^ (size.bh + 1)
   pub counts : p.buffer < 2 ^ (size.lh + 1)
   pub some_channel : 1 ≤ link_channel
+  pub some_dest : 1 ≤ dest_bits
   pub channels : (d : ℕ) → link_channels p d ≤ 2 ^ link_channel
   pub dests : tiles p ≤ 2 ^ dest_bits
   -- head, tail, destination and payload
@@ -286,6 +307,7 @@ pub record LeafRuns (p : Plan) (n : ℕ) (names : LeafNames) (nets : NetNames) (
       (arriving_slot p m (opposite port))) w v u
   pub rows : (o : ℕ) → HasLink p n o → Moves (link_group (link_names p n names nets o) (link_channel + link_flit)
       (length p.domains) (p.stages - 1)) w v u
+  pub arrivals : (port : ℕ) → HasLink p n port → HoldsIn (arrival_group p n nets q size dest_bits port) w v
   pub domains : (d : ℕ) → d < length p.domains → DomainRuns p n d names nets q base size dest_bits link_flit
       link_channel (enters d) w v u
 
