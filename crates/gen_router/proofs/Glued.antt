@@ -5,8 +5,8 @@ use Rattle.std.proofs.lemmas.Bool.Decides.{nat_tests}
 use Rattle.std.proofs.lemmas.Int.{ints}
 use Rattle.std.proofs.lemmas.Nat.{mul-le}
 use Rattle.std.proofs.lemmas.List.Elements.{All-head}
-use Rattle.vl_tree.specs.Values.{Expr, net, bit, part, not}
-use Rattle.vl_model.specs.Meaning.{Widths, Values, value_of, width_of, one_if}
+use Rattle.vl_tree.specs.Values.{Expr, net, bit, part, not, cat, no_parts, parts}
+use Rattle.vl_model.specs.Meaning.{Widths, Values, value_of, width_of, one_if, chosen as picked}
 use Rattle.noc_model.specs.declared.Flit.{Flit}
 use Rattle.noc_model.specs.declared.LinkFlit.{LinkFlit}
 use Rattle.noc_model.specs.declared.Stage.{Stage}
@@ -16,7 +16,7 @@ use Rattle.noc_model.specs.Place.{neighbour, opposite, owner, route}
 use Rattle.noc_model.specs.Sound.{IsSound}
 use Rattle.noc_model.specs.SoundState.{HasOutput, IsOutput, IsSoundTile, GoesHome}
 use Rattle.noc_model.specs.Tile.{Tile, TileIn}
-use Rattle.noc_model.specs.Step.{chosen as picked_port, is_place, takes, is_ready, is_ready_at, leaves, front, is_tail, comes_in, flit_on, sent, is_on, is_tail_on, tile_step}
+use Rattle.noc_model.specs.Step.{chosen as picked_port, is_place, takes, is_ready, is_ready_at, leaves, front, is_tail, comes_in, flit_on, next_ejected, sent, is_on, is_tail_on, tile_step}
 use Rattle.noc_model.proofs.Coords.{positive}
 use Rattle.noc_model.specs.declared.Grant.{Grant}
 use Rattle.noc_model.proofs.Switch.{chosen-inside}
@@ -47,7 +47,7 @@ use Rattle.gen_router.proofs.Sized.{high-is, place_count-is, in_few, out-link, f
 use Rattle.gen_router.proofs.Homes.{away-home, host-tile}
 use Rattle.gen_buffer.specs.Fifo.{fifo_items, WordsAre}
 use Rattle.vl_model.specs.Parts.{AllHold}
-use Rattle.gen_router.proofs.Placed.{one-bit, row-of, channel-of, place-there, place-not, place-bits-shown, bit-is, bit-one, tail-bit, route-bit, flit-small, flit-part, cat-two, cat-three, link-word, routed-to, or-wide, any-on, on-place, on_front, front-tail, front-leads}
+use Rattle.gen_router.proofs.Placed.{one-bit, row-of, channel-of, place-there, place-not, place-bits-shown, bit-is, bit-one, tail-bit, route-bit, flit-small, flit-part, eject-word, cat-two, cat-three, link-word, routed-to, or-wide, any-on, on-place, on_front, front-tail, front-leads}
 use Rattle.gen_router.proofs.Steps.{MayCome, comes-room, absent-kept, within-kept, short-kept, words-kept, away-kept}
 
 -- ---- ports
@@ -568,6 +568,53 @@ module _ (p : Plan) (n d : ℕ) (names : LeafNames) (nets : NetNames) (q : PortN
           ap (λ m. 1 * 2 ^ (link_channel + link_flit) + (m * 2 ^ link_flit + flit_code dest_bits x.flit)) ((channel (Some x) e).0 x.channel refl)
           ∙ omega arith
 
+  -- ---- the ejection place
+
+  on-local-is : hosts p n d ≡ true → v.net (nets.on d 0 0) ≡ one_if (is_on (sent p d n (pos t) (s d) (i d) 0) 0)
+  on-local-is h =
+      (runs.on_local h).nets.1.0
+      ∙ rw ((tie.outputs 0 h).active 0 (omega arith), leaves-is, mask-and (high p d + 1) (λ place. is_active (stage_at p d (s d) place) 0 0) (leaves_at p d n (pos t) (s d) (i d)), high-is p d some)
+      (on-shown p d n 0 0 (pos t) (s d) (i d) (in_few p d))
+
+  ejected-kept : hosts p n d ≡ true → u.net (names.ejected d) ≡ ejected_code next.ejected
+  unfolding next tile_step
+  ejected-kept h = (runs.eject h).steps.moves.0 ∙ go (sent p d n (pos t) (s d) (i d) 0) refl
+    where
+      word : ℕ
+      word = 1 * 2 ^ (2 + 32) + (v.net (nets.eject d) / 2 ^ (32 + dest_bits) % 2 ^ (33 + dest_bits - (32 + dest_bits) + 1) * 2 ^ 32 + v.net (nets.eject d) / 2 ^ 0 % 2 ^ (31 - 0 + 1))
+
+      moved : ℕ
+      moved = picked (v.net (nets.on d 0 0)) (value_of w v (cat (parts (in_bits 1 1) (parts (part (nets.eject d) (33 + dest_bits) (32 + dest_bits)) (parts (part (nets.eject d) 31 0) no_parts))))) (picked (v.net (q.hears d)) 0 (v.net (names.ejected d)))
+
+      shown : value_of w v (cat (parts (in_bits 1 1) (parts (part (nets.eject d) (33 + dest_bits) (32 + dest_bits)) (parts (part (nets.eject d) 31 0) no_parts)))) ≡ word
+      shown =
+          let wide : 33 + dest_bits - (32 + dest_bits) + 1 ≡ 2 = omega arith in
+          cat-three w v (in_bits 1 1) (part (nets.eject d) (33 + dest_bits) (32 + dest_bits)) (part (nets.eject d) 31 0) 2 32 wide refl
+
+      out : v.net (nets.eject d) ≡ sent_code dest_bits (sent p d n (pos t) (s d) (i d) 0)
+      out = (runs.eject h).now.nets.1.0 ∙ out-flit-is 0 (omega arith)
+
+      on : (x : Option LinkFlit) → sent p d n (pos t) (s d) (i d) 0 ≡ x → v.net (nets.on d 0 0) ≡ one_if (is_on x 0)
+      on x e = on-local-is h ∙ ap (λ y. one_if (is_on y 0)) e
+
+      old : (b : Bool) → (i d).hears ≡ b → picked (v.net (q.hears d)) 0 (v.net (names.ejected d)) ≡ ejected_code (next_ejected None b (s d).ejected)
+      old true e = ap (λ k. picked k 0 (v.net (names.ejected d))) ((input.offers d h).1 ∙ ap one_if e)
+      old false e = ap (λ k. picked k 0 (v.net (names.ejected d))) ((input.offers d h).1 ∙ ap one_if e) ∙ tie.ejected h
+
+      go : (x : Option LinkFlit) → sent p d n (pos t) (s d) (i d) 0 ≡ x → moved ≡ ejected_code (next_ejected x (i d).hears (s d).ejected)
+      go None e = ap (λ k. picked k (value_of w v (cat (parts (in_bits 1 1) (parts (part (nets.eject d) (33 + dest_bits) (32 + dest_bits)) (parts (part (nets.eject d) 31 0) no_parts))))) (picked (v.net (q.hears d)) 0 (v.net (names.ejected d)))) (on None e) ∙ old (i d).hears refl
+      go (Some x) e =
+          let from = sent-from p d n (pos t) (s d) (i d) 0 x e in
+          let below : x.channel < 1 = (subst (HasOutput p d n) from.active (tie.sound.stages from.port from.c)).1 in
+          let here_channel : (x.channel == 0) ≡ true = grind (arith, nat_tests, below) in
+          let fs = list-front ((s d).queue from.port from.c) x.flit from.flit in
+          let fit = small from.port from.c x.flit fs.0 fs.1 in
+          let code : v.net (nets.eject d) ≡ flit_code dest_bits x.flit = out ∙ ap (sent_code dest_bits) e in
+          ap (λ k. picked k (value_of w v (cat (parts (in_bits 1 1) (parts (part (nets.eject d) (33 + dest_bits) (32 + dest_bits)) (parts (part (nets.eject d) 31 0) no_parts))))) (picked (v.net (q.hears d)) 0 (v.net (names.ejected d)))) (on (Some x) e ∙ ap one_if here_channel)
+          ∙ shown
+          ∙ ap (λ k. 1 * 2 ^ (2 + 32) + (k / 2 ^ (32 + dest_bits) % 2 ^ (33 + dest_bits - (32 + dest_bits) + 1) * 2 ^ 32 + k / 2 ^ 0 % 2 ^ (31 - 0 + 1))) code
+          ∙ eject-word dest_bits x.flit fit.0 fit.1
+
   -- ---- buffers
 
   pop-is : (port c : ℕ) → HasPlace p n d port c → v.net (nets.leaves d) / 2 ^ (port * link_channels p d + c) % 2 ≡ one_if (leaves p d n (pos t) (s d) (i d) port c)
@@ -685,7 +732,7 @@ module _ (p : Plan) (n d : ℕ) (names : LeafNames) (nets : NetNames) (q : PortN
     packet = more.packet;
     current = more.current;
     dropped = more.dropped;
-    ejected = more.ejected;
+    ejected = ejected-kept;
     absent = λ port c none. absent-kept p n d (pos t) (s d) (i d) port c may tie.sound.current none (tie.absent port c none);
     sound = after;
     within = λ o x link. within-kept p n d (pos t) (s d) (i d) o x may link (tie.within o x link);

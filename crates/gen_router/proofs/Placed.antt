@@ -18,7 +18,7 @@ use Rattle.noc_model.specs.Place.{neighbour, route}
 use Rattle.noc_model.specs.Step.{front, is_tail, is_on, is_place}
 use Rattle.noc_model.proofs.Ports.{link-dim}
 use Rattle.gen_router.specs.Places.{leads}
-use Rattle.gen_router.specs.Tie.{HasPlace, flit_code, word_code}
+use Rattle.gen_router.specs.Tie.{HasPlace, flit_code, word_code, ejected_code}
 use Rattle.gen_router.specs.Glue.{high, has_place, placed, place_bits, route_bits}
 use Rattle.gen_kit.proofs.Muxed.{table-shown}
 use Rattle.gen_router.proofs.Sized.{high-is, some-link-channels}
@@ -273,3 +273,28 @@ pub routed-to : (p : Plan) (n b : ℕ) (w : Widths) (v : Values) (dest : Name) (
 routed-to p n b w v dest to e below =
     let at : v.net dest / 2 ^ 0 ≡ to = div-one (v.net dest) ∙ e in
     table-shown w v dest (ports p) (λ x. 2 ^ route p n x) 0 b (subst (λ k. k < 2 ^ b) (sym at) below) ∙ ap (λ x. 2 ^ route p n x) at
+
+-- ---- the ejection place
+
+pub eject-word : (b : ℕ) (f : Flit) → f.dest < 2 ^ b → f.payload < 2 ^ 32
+    → 1 * 2 ^ (2 + 32) + (flit_code b f / 2 ^ (32 + b) % 2 ^ (33 + b - (32 + b) + 1) * 2 ^ 32 + flit_code b f / 2 ^ 0 % 2 ^ (31 - 0 + 1)) ≡ ejected_code (Some f)
+eject-word b f hd hp =
+    ap (λ k. 1 * 2 ^ (2 + 32) + (k * 2 ^ 32 + flit_code b f / 2 ^ 0 % 2 ^ (31 - 0 + 1))) top
+    ∙ ap (λ k. 1 * 2 ^ (2 + 32) + ((one_if f.head * 2 + one_if f.tail) * 2 ^ 32 + k)) low ∙ omega arith
+  where
+    two_bits : 33 + b - (32 + b) + 1 ≡ 2
+    two_bits = omega arith
+
+    few : one_if f.head * 2 + one_if f.tail < 2 ^ 2
+    few = let head = one-most f.head in let tail = one-most f.tail in omega (arith, head, tail)
+
+    top : flit_code b f / 2 ^ (32 + b) % 2 ^ (33 + b - (32 + b) + 1) ≡ one_if f.head * 2 + one_if f.tail
+    top =
+        ap (λ k. flit_code b f / 2 ^ (32 + b) % 2 ^ k) two_bits ∙ ap (λ x. x / 2 ^ (32 + b) % 2 ^ 2) (split-code b f)
+        ∙ ap (λ x. x % 2 ^ 2) (div-mul-add (one_if f.head * 2 + one_if f.tail) (2 ^ (32 + b)) (f.dest * 2 ^ 32 + f.payload) (low-small b f.dest f.payload hd hp))
+        ∙ mod-eq_of_lt few
+
+    low : flit_code b f / 2 ^ 0 % 2 ^ (31 - 0 + 1) ≡ f.payload
+    low =
+        ap (λ x. x % 2 ^ 32) (div-one (flit_code b f))
+        ∙ mul-add-mod_self_right ((one_if f.head * 2 + one_if f.tail) * 2 ^ b + f.dest) (2 ^ 32) f.payload ∙ mod-eq_of_lt hp

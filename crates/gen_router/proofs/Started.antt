@@ -78,7 +78,7 @@ nothing-own true = refl
 nothing-own false = refl
 
 domain-starts : (p : Plan) (n d : ℕ) (names : LeafNames) (nets : NetNames) (q : PortNames) (base : ℕ → ℕ) (size : BufferSize) (dest_bits : ℕ) (v : Values) → IsSound p → d < length p.domains
-    → DomainStarts p n d names nets q base size v → DomainTie p n d names size dest_bits v (pos 0) (start_tile p)
+    → DomainStarts p n d names nets q base size dest_bits v → DomainTie p n d names size dest_bits v (pos 0) (start_tile p)
 domain-starts p n d names nets q base size dest_bits v sound there e = record {
   idle = e.idle.0 ∙ whole (high p d + 1) ∙ ap (λ m. mask m (λ k. true)) (high-is p d some);
   outputs = λ o port. alloc-starts p d n o (names.alloc d o) (alloc_size p d o) v (e.alloc o port);
@@ -94,7 +94,7 @@ domain-starts p n d names nets q base size dest_bits v sound there e = record {
   packet = e.packet;
   current = e.current;
   dropped = e.dropped;
-  ejected = e.ejected;
+  ejected = λ h. (e.ejected h).0;
   absent = λ port c none. (refl, refl);
   sound = start-sound p d n (pos 0) some;
   within = λ o x link. omega arith;
@@ -107,7 +107,7 @@ domain-starts p n d names nets q base size dest_bits v sound there e = record {
     some = some-channels p d sound there
 
 pub leaf-starts : (p : Plan) (n : ℕ) (names : LeafNames) (nets : NetNames) (q : PortNames) (base : ℕ → ℕ) (size : BufferSize) (slot_high dest_bits link_flit link_channel : ℕ) (v : Values) (i : ℕ → ℕ → TileIn) → IsSound p
-    → LeafStarts p n names nets q base size slot_high link_flit link_channel v → LeafTie p n names size dest_bits link_flit link_channel v 0 (state_at p n i 0) (rows_at p n i 0)
+    → LeafStarts p n names nets q base size slot_high dest_bits link_flit link_channel v → LeafTie p n names size dest_bits link_flit link_channel v 0 (state_at p n i 0) (rows_at p n i 0)
 unfolding nothing
 leaf-starts p n names nets q base size slot_high dest_bits link_flit link_channel v i sound e = record {
   leaving = λ o link. slot-starts (names.slot (leaving_slot p n o)) slot_high p.slots (length p.domains) (leaving_slot p n o) (slot-below p n (pos 0) (way_of o) some) v (e.leaving o link);

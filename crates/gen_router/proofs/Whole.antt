@@ -86,7 +86,7 @@ pub leaf-run-reset : (p : Plan) (n : ℕ) (names : LeafNames) (nets : NetNames) 
     → ((t : ℕ) → LeafRuns p n names nets q base size slot_high dest_bits link_flit link_channel enters w (v t) (v (suc t)))
     → ((t : ℕ) → LeafBorrowed p n names nets dest_bits enters w (v t) (v (suc t)) t (state_at p n i t) (i t))
     → ((t : ℕ) → LeafIn p n q base dest_bits link_flit link_channel (v t) t (state_at p n i t) (i t))
-    → LeafStarts p n names nets q base size slot_high link_flit link_channel (v 0)
+    → LeafStarts p n names nets q base size slot_high dest_bits link_flit link_channel (v 0)
     → (t : ℕ) → LeafTie p n names size dest_bits link_flit link_channel (v t) t (state_at p n i t) (rows_at p n i t)
 leaf-run-reset p n names nets q base size slot_high dest_bits link_flit link_channel enters w v i sound inside fits runs more input starts =
     leaf-run p n names nets q base size slot_high dest_bits link_flit link_channel enters w v i sound inside fits runs more input

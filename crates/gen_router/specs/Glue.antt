@@ -1,7 +1,7 @@
 -- One domain of a leaf: its groups over one set of names, and what the tie of the next cycle takes from outside them.
 use Rattle.std.specs.Prelude.{◌≡◌, ℕ, zero, suc, ◌+◌, ◌-◌, ◌*◌, ◌<◌, ◌≤◌, ◌^◌, Bool, true, List, [], ◌∷◌, length, Option, Some, None, is_some, nat_lt, if◌then◌else◌, ◌&&◌, ◌==◌, ℤ, pos, ◌-ℤ◌}
 use Rattle.vl_tree.specs.declared.tree.Op.TheVariants.{And, Or}
-use Rattle.vl_tree.specs.Values.{Name, Expr, net, bit, part, not, two, cat, no_parts, parts, wire, reg, assign, clocked}
+use Rattle.vl_tree.specs.Values.{Name, Expr, net, bit, part, not, two, cat, no_parts, parts, choose, wire, reg, assign, clocked}
 use Rattle.vl_model.specs.Meaning.{Widths, Values, value_of, one_if}
 use Rattle.gen_kit.specs.Families.{in_bits, or_upto}
 use Rattle.gen_kit.specs.Mux.{gated_words, table}
@@ -22,7 +22,7 @@ use Rattle.gen_router.specs.Buffers.{BufferSize, buffer_group, arrival_push, is_
 use Rattle.gen_router.specs.Counts.{idle_group, credit_group}
 use Rattle.gen_router.specs.Slots.{leaving_slot, arriving_slot, slot_group}
 use Rattle.gen_router.specs.Links.{LinkNames, link_group}
-use Rattle.gen_router.specs.Tie.{LeafNames, PortNames, HasLink, HasPort, HasPlace, alloc_size, word_code, ejected_code, PacketTie}
+use Rattle.gen_router.specs.Tie.{LeafNames, PortNames, HasLink, HasPort, HasPlace, alloc_size, word_code, PacketTie}
 
 -- the nets of a domain that are no registers
 pub record NetNames : Type 0 where
@@ -40,6 +40,8 @@ pub record NetNames : Type 0 where
   -- by domain and input port
   pub granted : ℕ → ℕ → Name
   pub flit : ℕ → ℕ → Name
+  -- by domain: the flit that goes by the local output
+  pub eject : ℕ → Name
   -- by arriving port: where its flit goes, and the word that is stored
   pub goal : ℕ → Name
   pub stored : ℕ → Name
@@ -199,6 +201,19 @@ arrival_group p n nets q size dest_bits port = record {
   moves = [];
 }
 
+-- the ejection place: a flit that goes by the local output takes it, and one that is heard leaves it
+abbrev pub eject_group : Plan → ℕ → LeafNames → NetNames → PortNames → ℕ → ℕ → Group
+eject_group p n names nets q dest_bits d = record {
+  heads = reg 34 (names.ejected d) ∷ [];
+  nets = wire (33 + dest_bits) (nets.eject d) ∷ assign (nets.eject d) (out_flit p n names nets dest_bits d 0) ∷ [];
+  moves =
+      clocked (names.ejected d) (record { width = 35; value = 0 })
+      (choose (net (nets.on d 0 0)) (cat (parts (in_bits 1 1) (parts (part (nets.eject d) (33 + dest_bits)
+      (32 + dest_bits)) (parts (part (nets.eject d) 31 0) no_parts)))) (choose (net (q.hears d)) (in_bits 35 0)
+      (net (names.ejected d))))
+      ∷ [];
+}
+
 -- the credit pulses of an input port: the channels that a flit leaves
 abbrev pub pulse_group : Plan → LeafNames → NetNames → ℕ → ℕ → Group
 pulse_group p names nets d port = record {
@@ -246,6 +261,8 @@ pub record DomainRuns (p : Plan) (n d : ℕ) (names : LeafNames) (nets : NetName
   pub ready : (o : ℕ) → HasPort p n d o → HoldsIn (ready_group p n names nets q size d o) w v
   pub unready : (o : ℕ) → o < ports p → (HasPort p n d o → ⊥) → HoldsIn (unready_group p nets d o) w v
   pub on : (o x : ℕ) → HasLink p n o → x < link_channels p d → HoldsIn (on_group p names nets d o x) w v
+  pub on_local : hosts p n d ≡ true → HoldsIn (on_group p names nets d 0 0) w v
+  pub eject : hosts p n d ≡ true → Moves (eject_group p n names nets q dest_bits d) w v u
   pub freed : (o : ℕ) → HasPort p n d o → HoldsIn (freed_group p names nets d o) w v
   pub flits : (port : ℕ) → HasPort p n d port → HoldsIn (flit_group p names nets dest_bits d port) w v
   pub sends : (o : ℕ) → HasLink p n o
@@ -280,7 +297,6 @@ pub record Borrowed (p : Plan) (n d : ℕ) (names : LeafNames) (nets : NetNames)
       (tile_step p d n t s i).packet
   pub current : hosts p n d ≡ true → u.net (names.current d) ≡ (tile_step p d n t s i).current
   pub dropped : hosts p n d ≡ true → u.net (names.dropped d) ≡ one_if (tile_step p d n t s i).dropped
-  pub ejected : hosts p n d ≡ true → u.net (names.ejected d) ≡ ejected_code (tile_step p d n t s i).ejected
 
 -- what the plan and the sizes must be
 pub record GlueFits (p : Plan) (size : BufferSize) (slot_high dest_bits link_flit link_channel : ℕ) : Type 0 where
@@ -340,7 +356,7 @@ rows_at p n i (suc t) o j = next_shared p n t (state_at p n i t) (i t) (rows_at 
 -- the registers of a domain's groups have their reset constants, and those of groups that are not here yet are the
 -- start's
 pub record DomainStarts (p : Plan) (n d : ℕ) (names : LeafNames) (nets : NetNames) (q : PortNames) (base : ℕ
-    → ℕ) (size : BufferSize) (v : Values) : Type 0 where
+    → ℕ) (size : BufferSize) (dest_bits : ℕ) (v : Values) : Type 0 where
   pub alloc : (o : ℕ) → HasPort p n d o → AllReset v (alloc_group p d n o (names.alloc d o) (alloc_size p d o)).moves
   pub switch : AllReset v (switch_group (switch_names names nets d) (switch_size p d)).moves
   pub idle : AllReset v (idle_group (names.idle d) (nets.filled d) (nets.ends d) (high p d)).moves
@@ -353,11 +369,11 @@ pub record DomainStarts (p : Plan) (n d : ℕ) (names : LeafNames) (nets : NetNa
   pub packet : hosts p n d ≡ true → (v.net (names.passing d) ≡ 0) × (v.net (names.dropping d) ≡ 0)
   pub current : hosts p n d ≡ true → v.net (names.current d) ≡ 0
   pub dropped : hosts p n d ≡ true → v.net (names.dropped d) ≡ 0
-  pub ejected : hosts p n d ≡ true → v.net (names.ejected d) ≡ 0
+  pub ejected : hosts p n d ≡ true → AllReset v (eject_group p n names nets q dest_bits d).moves
 
 -- the items of all groups hold at reset
 pub record LeafStarts (p : Plan) (n : ℕ) (names : LeafNames) (nets : NetNames) (q : PortNames) (base : ℕ
-    → ℕ) (size : BufferSize) (slot_high link_flit link_channel : ℕ) (v : Values) : Type 0 where
+    → ℕ) (size : BufferSize) (slot_high dest_bits link_flit link_channel : ℕ) (v : Values) : Type 0 where
   pub leaving : (o : ℕ) → HasLink p n o → AllReset v (slot_group (names.slot (leaving_slot p n o)) slot_high p.slots
       (length p.domains) (leaving_slot p n o)).moves
   pub arriving : (port m : ℕ) → neighbour p n port ≡ Some m
@@ -365,4 +381,4 @@ pub record LeafStarts (p : Plan) (n : ℕ) (names : LeafNames) (nets : NetNames)
       (arriving_slot p m (opposite port))).moves
   pub rows : (o : ℕ) → HasLink p n o → AllReset v (link_group (link_names p n names nets o)
       (link_channel + link_flit) (length p.domains) (p.stages - 1)).moves
-  pub domains : (d : ℕ) → d < length p.domains → DomainStarts p n d names nets q base size v
+  pub domains : (d : ℕ) → d < length p.domains → DomainStarts p n d names nets q base size dest_bits v
