@@ -12,6 +12,8 @@ pub mod Counted
 pub mod Steps
 pub mod Sized
 pub mod Placed
+pub mod Looked
+pub mod Attached
 pub mod Glued
 pub mod Homes
 pub mod Whole

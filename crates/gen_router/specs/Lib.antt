@@ -3,6 +3,7 @@ pub mod Alloc
 pub mod Slots
 pub mod Buffers
 pub mod Tie
+pub mod Attach
 pub mod Tags
 pub mod Switch
 pub mod Links
