@@ -1,5 +1,5 @@
 -- An attachment's nets show what enters, and an edge keeps its registers.
-use Rattle.std.proofs.Common.{◌≡◌, ◌≢◌, ℕ, zero, suc, ◌+◌, ◌-◌, ◌*◌, ◌/◌, ◌%◌, ◌<◌, ◌≤◌, ◌^◌, ◌⊎◌, inl, inr, Bool, true, false, List, [], ◌∷◌, length, Option, refl, sym, ◌∙◌, ap, arith, subst, ◌==◌, ◌&&◌, ◌||◌}
+use Rattle.std.proofs.Common.{◌≡◌, ◌≢◌, ℕ, ◌+◌, ◌-◌, ◌*◌, ◌/◌, ◌%◌, ◌<◌, ◌≤◌, ◌^◌, ◌⊎◌, inl, inr, Bool, true, false, [], length, Option, refl, sym, ◌∙◌, ap, arith, subst, ◌==◌, ◌&&◌}
 use Rattle.std.specs.Prelude.{Some, None, is_some, is_none, not as negated, nat_lt, if◌then◌else◌, option_to_list, bit_and, bit_or}
 use Rattle.std.specs.List.{AllPairs}
 use Rattle.std.specs.Int.Bits.{and_zero_l}
@@ -8,12 +8,11 @@ use Rattle.std.proofs.lemmas.Nat.{pow-add, div-mul-add}
 use Rattle.std.proofs.lemmas.Bool.Decides.{nat_tests}
 use Rattle.vl_tree.specs.declared.tree.Op.TheVariants.{And, Equal, Less}
 use Rattle.vl_tree.specs.Values.{net, two}
-use Rattle.vl_model.specs.Meaning.{Widths, Values, value_of, width_of, one_if, chosen}
+use Rattle.vl_model.specs.Meaning.{Widths, Values, value_of, one_if, chosen}
 use Rattle.vl_model.specs.Parts.{Holds, AllHold}
 use Rattle.gen_kit.proofs.Parts.{held-front, held-back}
 use Rattle.gen_kit.proofs.Families.{or-bits, any-lone, bit-or}
-use Rattle.gen_kit.proofs.Muxed.{table-shown}
-use Rattle.gen_kit.specs.Families.{in_bits, any_upto}
+use Rattle.gen_kit.specs.Families.{in_bits}
 use Rattle.gen_kit.specs.Groups.{HoldsIn, StepsIn}
 use Rattle.noc_model.specs.declared.Flit.{Flit}
 use Rattle.noc_model.specs.declared.Offer.{Offer}
@@ -21,14 +20,13 @@ use Rattle.noc_model.specs.declared.Packet.{Packet}
 use Rattle.noc_model.specs.declared.Packet.TheVariants.{Between, Passing, Dropping}
 use Rattle.noc_model.specs.declared.Range.{Range}
 use Rattle.noc_model.specs.Plan.{Plan, channels, hosts, lookup, range_of, hosted_tile}
-use Rattle.noc_model.specs.Place.{route}
 use Rattle.noc_model.specs.Sound.{AreApart}
 use Rattle.noc_model.specs.SoundState.{IsSoundPacket}
 use Rattle.noc_model.specs.Tile.{Tile, TileIn}
 use Rattle.noc_model.specs.Step.{is_ready_packet, is_open, word_in, goes_to, is_first, packet_for, next_packet, entry_of, entry, is_dropped, next_current, comes_in}
 use Rattle.gen_router.specs.Buffers.{is_filled}
-use Rattle.gen_router.specs.Tie.{PacketTie, PortNames, OfferShown, word_code, flit_code}
-use Rattle.gen_router.specs.Attach.{AttachNames, AttachSize, AttachIn, attach_group, enter_at, entry_word, room_expr, next_channel, look_nets, looked, reach, found_code}
+use Rattle.gen_router.specs.Tie.{PacketTie, PortNames, OfferShown, word_code}
+use Rattle.gen_router.specs.Attach.{AttachNames, AttachSize, AttachIn, attach_group, enter_at, entry_word, room_expr, look_nets, reach, found_code}
 use Rattle.gen_router.proofs.Buffered.{bit-and}
 use Rattle.gen_router.proofs.Placed.{routed-to}
 use Rattle.gen_router.specs.Glue.{route_bits}

@@ -1,11 +1,12 @@
 -- One edge keeps the tie of a domain: each group's conditions come from the other groups' nets and from the tie.
 use Rattle.std.proofs.Common.{◌≡◌, ◌≢◌, ℕ, zero, suc, ◌+◌, ◌-◌, ◌*◌, ◌/◌, ◌%◌, ◌<◌, ◌≤◌, ◌^◌, ◌⊎◌, inl, inr, Bool, true, false, List, [], ◌∷◌, length, Option, refl, sym, ◌∙◌, ap, arith, subst, ◌==◌, ◌&&◌, ℤ}
-use Rattle.std.specs.Prelude.{option_map, All, bit_and, map, Some, None, is_some, is_none, nat_lt, if◌then◌else◌, pos, ◌+ℤ◌, ◌-ℤ◌}
+use Rattle.std.specs.Prelude.{nat_le, option_to_list, option_map, All, bit_and, map, Some, None, is_some, is_none, nat_lt, if◌then◌else◌, pos, ◌+ℤ◌, ◌-ℤ◌}
 use Rattle.std.proofs.lemmas.Bool.Decides.{nat_tests}
 use Rattle.std.proofs.lemmas.Int.{ints}
+use Rattle.std.proofs.lemmas.Option.{slice_get-get_or}
 use Rattle.std.proofs.lemmas.Nat.{mul-le}
 use Rattle.std.proofs.lemmas.List.Elements.{All-head}
-use Rattle.vl_tree.specs.Values.{Expr, net, bit, part, not, cat, no_parts, parts}
+use Rattle.vl_tree.specs.Values.{net, bit, part, not, cat, no_parts, parts}
 use Rattle.vl_model.specs.Meaning.{Widths, Values, value_of, width_of, one_if, chosen as picked}
 use Rattle.noc_model.specs.declared.Flit.{Flit}
 use Rattle.noc_model.specs.declared.LinkFlit.{LinkFlit}
@@ -16,7 +17,7 @@ use Rattle.noc_model.specs.Place.{neighbour, opposite, owner, route}
 use Rattle.noc_model.specs.Sound.{IsSound}
 use Rattle.noc_model.specs.SoundState.{HasOutput, IsOutput, IsSoundTile, GoesHome}
 use Rattle.noc_model.specs.Tile.{Tile, TileIn}
-use Rattle.noc_model.specs.Step.{chosen as picked_port, is_place, takes, is_ready, is_ready_at, leaves, front, is_tail, comes_in, flit_on, next_ejected, sent, is_on, is_tail_on, tile_step}
+use Rattle.noc_model.specs.Step.{chosen as picked_port, is_place, takes, is_ready, is_ready_at, leaves, front, is_tail, comes_in, entry, word_in, flit_on, next_ejected, sent, is_on, is_tail_on, tile_step}
 use Rattle.noc_model.proofs.Coords.{positive}
 use Rattle.noc_model.specs.declared.Grant.{Grant}
 use Rattle.noc_model.proofs.Switch.{chosen-inside}
@@ -33,8 +34,11 @@ use Rattle.gen_router.specs.Places.{stage_at, queue_at, is_active, is_idle, is_l
 use Rattle.gen_router.specs.Alloc.{AllocIn, AllocTie, out_count}
 use Rattle.gen_router.specs.Switch.{goes_by, ready_for, ReadyIn, SwitchIn, place_count}
 use Rattle.gen_router.specs.Buffers.{BufferSize, BufferTie, is_filled, link_code}
-use Rattle.gen_router.specs.Tie.{LeafNames, PortNames, HasLink, HasPort, HasPlace, alloc_size, DomainTie, LeafIn, PortIn, word_code, flit_code, ejected_code, IsWord}
-use Rattle.gen_router.specs.Glue.{NetNames, switch_names, switch_size, high, out_high, arrival_group, route_bits, has_port, has_place, front_bits, port_flit, out_flit, out_channel, able, some_active, DomainRuns, SlotsShown, Borrowed, GlueFits, link_push, pop_of}
+use Rattle.gen_router.specs.Tie.{LeafNames, PortNames, HasLink, HasPort, HasPlace, alloc_size, DomainTie, LeafIn, PortIn, word_code, flit_code, ejected_code, IsWord, PacketTie}
+use Rattle.gen_router.specs.Attach.{AttachIn, enter_at}
+use Rattle.gen_router.proofs.Attached.{pushes, word-is, packet-kept, current-kept, dropped-kept}
+use Rattle.noc_model.specs.declared.plan.DomainPart.{DomainPart}
+use Rattle.gen_router.specs.Glue.{attach_names, attach_size, current_high, NetNames, switch_names, switch_size, high, out_high, arrival_group, route_bits, has_port, has_place, front_bits, port_flit, out_flit, out_channel, able, some_active, DomainRuns, SlotsShown, GlueFits, link_push, pop_of}
 use Rattle.gen_kit.proofs.Sets.{mask-same, mask-and, mask-none, mask-bit}
 use Rattle.gen_kit.proofs.Families.{rows-shown, bit-or, or-bits}
 use Rattle.gen_router.proofs.Allocated.{alloc-kept}
@@ -42,7 +46,7 @@ use Rattle.gen_router.proofs.Switched.{ready-shown}
 use Rattle.gen_router.proofs.Granted.{choice-shown, leaves-grant, leaves-shown, granted-shown, turns-kept, choices-kept}
 use Rattle.gen_router.proofs.Sent.{on-shown, freed-shown, left, sent-from, chosen-sends, none-sent}
 use Rattle.gen_router.proofs.Counted.{idle-kept, credit-kept}
-use Rattle.gen_router.proofs.Buffered.{buffer-kept, arrival-pushes, bit-and}
+use Rattle.gen_router.proofs.Buffered.{buffer-kept, arrival-pushes, bit-and, length-map}
 use Rattle.gen_router.proofs.Sized.{high-is, place_count-is, in_few, out-link, fits-output, some-link-channels}
 use Rattle.gen_router.proofs.Homes.{away-home, host-tile}
 use Rattle.gen_buffer.specs.Fifo.{fifo_items, WordsAre}
@@ -146,14 +150,13 @@ leaves-one p d n t s i port c k gone =
     let by = left p d n t s i port c gone in
     leaves-grant p d n t s i port k ∙ ap (λ g. is_place (option_map (λ (h : Grant). h.channel) g) k) by.granted ∙ ap (λ m. m == k) by.channel
 
-module _ (p : Plan) (n d : ℕ) (names : LeafNames) (nets : NetNames) (q : PortNames) (base : ℕ → ℕ) (size : BufferSize) (slot_high dest_bits link_flit link_channel : ℕ) (enters : ℕ → Expr)
+module _ (p : Plan) (n d : ℕ) (names : LeafNames) (nets : NetNames) (q : PortNames) (base : ℕ → ℕ) (size : BufferSize) (slot_high dest_bits link_flit link_channel : ℕ)
     (w : Widths) (v u : Values) (t : ℕ) (s : ℕ → Tile) (i : ℕ → TileIn)
     (sound : IsSound p) (there : d < length p.domains) (fits : GlueFits p size slot_high dest_bits link_flit link_channel)
     (here : n < tiles p)
-    (runs : DomainRuns p n d names nets q base size dest_bits link_flit link_channel enters w v u)
+    (runs : DomainRuns p n d names nets q base size dest_bits link_flit link_channel w v u)
     (arrivals : (port : ℕ) → HasLink p n port → HoldsIn (arrival_group p n nets q size dest_bits port) w v)
     (slots : SlotsShown p n d names v (pos t))
-    (more : Borrowed p n d names nets dest_bits enters w v u (pos t) (s d) (i d))
     (input : LeafIn p n q base dest_bits link_flit link_channel v t s i)
     (tie : DomainTie p n d names size dest_bits v (pos t) (s d)) where
   some : 0 < channels p d
@@ -685,14 +688,68 @@ module _ (p : Plan) (n d : ℕ) (names : LeafNames) (nets : NetNames) (q : PortN
       go None is h = absurd (cc h)
       go (Some x) is h = stored x is ∙ ap (word_code p n dest_bits) (flit-is-one x h)
 
+  -- ---- the attachment
+
+  few-channels : channels p d ≤ 2 ^ (current_high (channels p d) + 1)
+  few-channels = go (nat_le (channels p d) 2) refl
+    where
+      most : channels p d ≤ 4
+      most = let x : DomainPart = record { name = []; channels = 0 } in rw (slice_get-get_or p.domains d x there) (sound.channels d x there).1
+
+      go : (b : Bool) → nat_le (channels p d) 2 ≡ b → channels p d ≤ 2 ^ ((if b then 0 else 1) + 1)
+      go true e = let le : channels p d ≤ 2 = grind (arith, nat_tests, e) in omega (arith, le)
+      go false e = omega (arith, most)
+
+  attach-in : hosts p n d ≡ true → AttachIn p n d (attach_names names nets d) q (attach_size p size dest_bits d) w v (s d) (i d)
+  attach-in h = record {
+    packet = tie.packet h;
+    current = tie.current h;
+    few = tie.sound.current;
+    counts = λ c below. (tie.buffers 0 c (h, below)).1.count ∙ length-map (word_code p n dest_bits) ((s d).queue 0 c);
+    offer = (input.offers d h).0;
+    last_width = runs.last_width h;
+    payload_width = runs.payload_width h;
+    channels_fit = few-channels;
+    some_dest = fits.some_dest;
+  }
+
+  dest-inside : (to : ℕ) → hosts p to d ≡ true → to < 2 ^ dest_bits
+  dest-inside to h = let inside = host-tile p to d sound h in let most = fits.dests in omega (arith, inside, most)
+
+  enters-at : hosts p n d ≡ true → (c : ℕ) → value_of w v (enter_at (attach_names names nets d) (attach_size p size dest_bits d) c) ≡ one_if (is_filled (comes_in p d (s d) (i d) 0 c))
+  enters-at h c = pushes p n d (attach_names names nets d) q (attach_size p size dest_bits d) w v u (s d) (i d) (runs.attach h).now (runs.attach h).steps (attach-in h) sound.ranges_apart dest-inside tie.sound.packet c
+
+  enters-word : hosts p n d ≡ true → (f : Flit) → entry p d (s d).packet (word_in p (s d) (i d)) ≡ Some f → v.net (nets.local d) ≡ word_code p n dest_bits f
+  enters-word h f e = word-is p n d (attach_names names nets d) q (attach_size p size dest_bits d) w v u (s d) (i d) (runs.attach h).now (runs.attach h).steps (attach-in h) sound.ranges_apart dest-inside tie.sound.packet f e
+
+  entered-is : (c : ℕ) (f : Flit) → comes_in p d (s d) (i d) 0 c ≡ f ∷ [] → entry p d (s d).packet (word_in p (s d) (i d)) ≡ Some f
+  entered-is c f e = go ((s d).current == c) (entry p d (s d).packet (word_in p (s d) (i d))) e
+    where
+      go : (b : Bool) (o : Option Flit) → (if b then option_to_list o else []) ≡ f ∷ [] → o ≡ Some f
+      go false o h = absurd (cc h)
+      go true None h = absurd (cc h)
+      go true (Some g) h = let same : g ≡ f = cc h in ap Some same
+
+  packet-next : hosts p n d ≡ true → PacketTie (names.passing d) (names.dropping d) (names.dest d) u next.packet
+  unfolding next tile_step
+  packet-next h = packet-kept p n d (attach_names names nets d) q (attach_size p size dest_bits d) w v u (s d) (i d) (runs.attach h).now (runs.attach h).steps (attach-in h) sound.ranges_apart dest-inside tie.sound.packet
+
+  current-next : hosts p n d ≡ true → u.net (names.current d) ≡ next.current
+  unfolding next tile_step
+  current-next h = current-kept p n d (attach_names names nets d) q (attach_size p size dest_bits d) w v u (s d) (i d) (runs.attach h).now (runs.attach h).steps (attach-in h) sound.ranges_apart dest-inside tie.sound.packet
+
+  dropped-next : hosts p n d ≡ true → u.net (names.dropped d) ≡ one_if next.dropped
+  unfolding next tile_step
+  dropped-next h = dropped-kept p n d (attach_names names nets d) q (attach_size p size dest_bits d) w v u (s d) (i d) (runs.attach h).now (runs.attach h).steps (attach-in h) sound.ranges_apart dest-inside tie.sound.packet
+
   queue-kept : (port c : ℕ) → HasPlace p n d port c → BufferTie (word_code p n dest_bits) (names.buffer d port c) size u (next.queue port c)
   unfolding next
   queue-kept zero c place =
       let run = runs.entered c place.0 place.1 in
-      buffer-kept p d n 0 c (word_code p n dest_bits) (names.buffer d 0 c) size (enters c) (pop_of p nets d 0 c) fits.pointers fits.counts w v u run.now run.later run.steps (pos t) (s d) (i d)
+      buffer-kept p d n 0 c (word_code p n dest_bits) (names.buffer d 0 c) size (enter_at (attach_names names nets d) (attach_size p size dest_bits d) c) (pop_of p nets d 0 c) fits.pointers fits.counts w v u run.now run.later run.steps (pos t) (s d) (i d)
       (record {
-        push = run.now.nets.0 ∙ more.pushes c place.0 place.1;
-        word = λ f e. more.words c f place e;
+        push = run.now.nets.0 ∙ enters-at place.0 c;
+        word = λ f e. ap v.net (runs.local_word c place.0) ∙ enters-word place.0 f (entered-is c f e);
         pop = run.now.nets.1.0 ∙ pop-is 0 c place;
         short = tie.short 0 c;
         room = room 0 c;
@@ -729,9 +786,9 @@ module _ (p : Plan) (n d : ℕ) (names : LeafNames) (nets : NetNames) (q : PortN
     turns = ports-turns-kept;
     pulses = pulses-kept;
     buffers = queue-kept;
-    packet = more.packet;
-    current = more.current;
-    dropped = more.dropped;
+    packet = packet-next;
+    current = current-next;
+    dropped = dropped-next;
     ejected = ejected-kept;
     absent = λ port c none. absent-kept p n d (pos t) (s d) (i d) port c may tie.sound.current none (tie.absent port c none);
     sound = after;

@@ -91,9 +91,9 @@ domain-starts p n d names nets q base size dest_bits v sound there e = record {
   pulses = λ port link. (e.pulses port link).0 ∙ empty (link_channels p d);
   buffers = λ port c place. (let r = e.buffers port c place in
       (0, record { read = r.1.1.1.1.1.1.1.1.0 ∙ sym (zero-mod (2 ^ (size.bh + 1))); write = r.1.1.1.1.1.1.1.1.1.0 ∙ sym (zero-mod (2 ^ (size.bh + 1))); count = r.1.1.1.1.1.1.1.1.1.1.0; words = tt }));
-  packet = e.packet;
-  current = e.current;
-  dropped = e.dropped;
+  packet = λ h. ((e.attach h).0, (e.attach h).1.0);
+  current = λ h. (e.attach h).1.1.1.0;
+  dropped = λ h. (e.attach h).1.1.1.1.0;
   ejected = λ h. (e.ejected h).0;
   absent = λ port c none. (refl, refl);
   sound = start-sound p d n (pos 0) some;

@@ -1,12 +1,11 @@
 -- The attachment of a domain at a tile: whether a word is taken, where its packet goes, and what enters.
-use Rattle.std.specs.Prelude.{◌≡◌, ℕ, zero, suc, ◌+◌, ◌-◌, ◌*◌, ◌<◌, ◌≤◌, ◌^◌, List, [], ◌∷◌, ◌++◌, length, Option, Some, None, nat_le, if◌then◌else◌, filter}
+use Rattle.std.specs.Prelude.{◌≡◌, ℕ, zero, suc, ◌+◌, ◌-◌, ◌<◌, ◌≤◌, ◌^◌, List, [], ◌∷◌, ◌++◌, length, Option, Some, None, filter}
 use Rattle.vl_tree.specs.declared.tree.Op.TheVariants.{And, Or, Add, Equal, Less}
 use Rattle.vl_tree.specs.Values.{Name, Expr, net, bit, part, not, two, choose, cat, no_parts, parts, Item, reg, clocked}
 use Rattle.vl_model.specs.Meaning.{Widths, Values}
 use Rattle.gen_kit.specs.Families.{in_bits, defined, or_upto}
 use Rattle.gen_kit.specs.Mux.{table}
 use Rattle.gen_kit.specs.Groups.{Group}
-use Rattle.noc_model.specs.declared.Offer.{Offer}
 use Rattle.noc_model.specs.declared.Range.{Range}
 use Rattle.noc_model.specs.Plan.{Plan, channels, ports, hosts}
 use Rattle.noc_model.specs.Place.{route}

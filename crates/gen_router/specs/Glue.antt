@@ -1,28 +1,28 @@
--- One domain of a leaf: its groups over one set of names, and what the tie of the next cycle takes from outside them.
-use Rattle.std.specs.Prelude.{◌≡◌, ℕ, zero, suc, ◌+◌, ◌-◌, ◌*◌, ◌<◌, ◌≤◌, ◌^◌, Bool, true, List, [], ◌∷◌, length, Option, Some, None, is_some, nat_lt, if◌then◌else◌, ◌&&◌, ◌==◌, ℤ, pos, ◌-ℤ◌}
+-- A leaf and each of its domains: their groups over one set of names.
+use Rattle.std.specs.Prelude.{◌≡◌, ℕ, zero, suc, ◌+◌, ◌-◌, ◌*◌, ◌<◌, ◌≤◌, ◌^◌, Bool, true, List, [], ◌∷◌, length, Option, Some, None, is_some, nat_lt, nat_le, if◌then◌else◌, ◌&&◌, ◌==◌, ℤ, pos, ◌-ℤ◌}
 use Rattle.vl_tree.specs.declared.tree.Op.TheVariants.{And, Or}
 use Rattle.vl_tree.specs.Values.{Name, Expr, net, bit, part, not, two, cat, no_parts, parts, choose, wire, reg, assign, clocked}
-use Rattle.vl_model.specs.Meaning.{Widths, Values, value_of, one_if}
+use Rattle.vl_model.specs.Meaning.{Widths, Values, one_if}
 use Rattle.gen_kit.specs.Families.{in_bits, or_upto}
 use Rattle.gen_kit.specs.Mux.{gated_words, table}
 use Rattle.vl_model.specs.Parts.{AllReset}
 use Rattle.gen_buffer.specs.Fifo.{fifo_items}
-use Rattle.noc_model.specs.declared.Flit.{Flit}
 use Rattle.noc_model.specs.declared.LinkFlit.{LinkFlit}
 use Rattle.noc_model.specs.Plan.{Plan, channels, link_channels, ports, in_channels, at_local, hosts, tiles}
 use Rattle.noc_model.specs.Place.{neighbour, opposite, owner, route}
 use Rattle.noc_model.specs.Tile.{Tile, TileIn, start_tile}
-use Rattle.noc_model.specs.Step.{comes_in, sent, shifted, tile_step}
+use Rattle.noc_model.specs.Step.{sent, shifted, tile_step}
 use Rattle.gen_kit.specs.Groups.{Group, HoldsIn, StepsIn}
 use Rattle.gen_kit.specs.Rotate.{is_empty}
 use Rattle.gen_router.specs.Alloc.{alloc_group, out_count}
 use Rattle.gen_router.specs.Switch.{SwitchNames, SwitchSize, switch_group, ready_expr}
 use Rattle.gen_kit.specs.Families.{row_parts}
-use Rattle.gen_router.specs.Buffers.{BufferSize, buffer_group, arrival_push, is_filled}
+use Rattle.gen_router.specs.Buffers.{BufferSize, buffer_group, arrival_push}
 use Rattle.gen_router.specs.Counts.{idle_group, credit_group}
+use Rattle.gen_router.specs.Attach.{AttachNames, AttachSize, attach_group, enter_at}
 use Rattle.gen_router.specs.Slots.{leaving_slot, arriving_slot, slot_group}
 use Rattle.gen_router.specs.Links.{LinkNames, link_group}
-use Rattle.gen_router.specs.Tie.{LeafNames, PortNames, HasLink, HasPort, HasPlace, alloc_size, word_code, PacketTie}
+use Rattle.gen_router.specs.Tie.{LeafNames, PortNames, HasLink, HasPort, HasPlace, alloc_size}
 
 -- the nets of a domain that are no registers
 pub record NetNames : Type 0 where
@@ -40,6 +40,16 @@ pub record NetNames : Type 0 where
   -- by domain and input port
   pub granted : ℕ → ℕ → Name
   pub flit : ℕ → ℕ → Name
+  -- by domain, of the attachment: what an address finds among the last ranges, and among all
+  pub look : ℕ → ℕ → Name
+  pub found : ℕ → Name
+  -- whether a word is taken, whether its packet goes to a tile, whether a flit enters
+  pub taken : ℕ → Name
+  pub goes : ℕ → Name
+  pub enters : ℕ → Name
+  -- the tile that it goes to, and the word that is stored
+  pub to : ℕ → Name
+  pub local : ℕ → Name
   -- by domain: the flit that goes by the local output
   pub eject : ℕ → Name
   -- by arriving port: where its flit goes, and the word that is stored
@@ -71,6 +81,37 @@ link_names p n names nets o = record {
   owns = (names.slot (leaving_slot p n o)).owns;
   word = λ e. nets.word e o;
   row = names.row o;
+}
+
+-- the names of the domain's attachment
+abbrev pub attach_names : LeafNames → NetNames → ℕ → AttachNames
+attach_names names nets d = record {
+  passing = names.passing d;
+  dropping = names.dropping d;
+  dest = names.dest d;
+  current = names.current d;
+  dropped = names.dropped d;
+  look = nets.look d;
+  found = nets.found d;
+  taken = nets.taken d;
+  goes = nets.goes d;
+  enters = nets.enters d;
+  to = nets.to d;
+  word = nets.local d;
+  count = λ c. (names.buffer d 0 c).count;
+}
+
+-- one less than the bits of the current channel's number: at most four channels are in one class
+abbrev pub current_high : ℕ → ℕ
+current_high count = if nat_le count 2 then 0 else 1
+
+-- the sizes of the domain's attachment
+abbrev pub attach_size : Plan → BufferSize → ℕ → ℕ → AttachSize
+attach_size p size dest_bits d = record {
+  dest_bits = dest_bits;
+  ch = current_high (channels p d);
+  lh = size.lh;
+  wh = size.wh;
 }
 
 -- one less than the places of a vector
@@ -246,10 +287,9 @@ at_or [] k g = g
 at_or (x ∷ xs) zero g = x
 at_or (x ∷ xs) (suc k) g = at_or xs k g
 
--- all groups of one domain. enters k says, in one bit, that a flit enters channel k of the local port
+-- all groups of one domain
 pub record DomainRuns (p : Plan) (n d : ℕ) (names : LeafNames) (nets : NetNames) (q : PortNames) (base : ℕ
-    → ℕ) (size : BufferSize) (dest_bits link_flit link_channel : ℕ) (enters : ℕ
-    → Expr) (w : Widths) (v u : Values) : Type 0 where
+    → ℕ) (size : BufferSize) (dest_bits link_flit link_channel : ℕ) (w : Widths) (v u : Values) : Type 0 where
   pub alloc : (o : ℕ) → HasPort p n d o → Moves (alloc_group p d n o (names.alloc d o) (alloc_size p d o)) w v u
   pub one_ends : (o : ℕ) → (names.alloc d o).ends ≡ nets.ends d
   pub switch : Moves (switch_group (switch_names names nets d) (switch_size p d)) w v u
@@ -276,27 +316,20 @@ pub record DomainRuns (p : Plan) (n d : ℕ) (names : LeafNames) (nets : NetName
       → Moves (buffer_group (names.buffer d port c) size (link_push p names q link_flit link_channel d port m c)
       (pop_of p nets d port c)) w v u
   pub entered : (c : ℕ) → hosts p n d ≡ true → c < channels p d
-      → Moves (buffer_group (names.buffer d 0 c) size (enters c) (pop_of p nets d 0 c)) w v u
+      → Moves (buffer_group (names.buffer d 0 c) size (enter_at (attach_names names nets d)
+      (attach_size p size dest_bits d) c) (pop_of p nets d 0 c)) w v u
+  pub attach : hosts p n d ≡ true → Moves (attach_group p n d (attach_names names nets d) q
+      (attach_size p size dest_bits d)) w v u
+  pub local_word : (c : ℕ) → hosts p n d ≡ true → (names.buffer d 0 c).word ≡ nets.local d
+  -- ports
+  pub last_width : hosts p n d ≡ true → w.net (q.last d) ≡ 1
+  pub payload_width : hosts p n d ≡ true → w.net (q.payload d) ≡ 32
 
 -- what the slot counters' nets show
 pub record SlotsShown (p : Plan) (n d : ℕ) (names : LeafNames) (v : Values) (t : ℤ) : Type 0 where
   pub leaving : (o : ℕ) → HasLink p n o → v.net ((names.slot (leaving_slot p n o)).owns d) ≡ one_if (owner p n o t == d)
   pub arriving : (port m : ℕ) → neighbour p n port ≡ Some m → v.net ((names.slot (arriving_slot p m
       (opposite port))).owns d) ≡ one_if (owner p m (opposite port) (t -ℤ pos p.stages) == d)
-
--- what groups show that are not here yet: the words to store, the attachment and ejection
-pub record Borrowed (p : Plan) (n d : ℕ) (names : LeafNames) (nets : NetNames) (dest_bits : ℕ) (enters : ℕ
-    → Expr) (w : Widths) (v u : Values) (t : ℤ) (s : Tile) (i : TileIn) : Type 0 where
-  -- what is stored
-  pub pushes : (c : ℕ) → hosts p n d ≡ true → c < channels p d
-      → value_of w v (enters c) ≡ one_if (is_filled (comes_in p d s i 0 c))
-  pub words : (c : ℕ) (f : Flit) → HasPlace p n d 0 c → comes_in p d s i 0 c ≡ f ∷ []
-      → v.net (names.buffer d 0 c).word ≡ word_code p n dest_bits f
-  -- the attachment and the ejection place after the edge
-  pub packet : hosts p n d ≡ true → PacketTie (names.passing d) (names.dropping d) (names.dest d) u
-      (tile_step p d n t s i).packet
-  pub current : hosts p n d ≡ true → u.net (names.current d) ≡ (tile_step p d n t s i).current
-  pub dropped : hosts p n d ≡ true → u.net (names.dropped d) ≡ one_if (tile_step p d n t s i).dropped
 
 -- what the plan and the sizes must be
 pub record GlueFits (p : Plan) (size : BufferSize) (slot_high dest_bits link_flit link_channel : ℕ) : Type 0 where
@@ -314,8 +347,8 @@ pub record GlueFits (p : Plan) (size : BufferSize) (slot_high dest_bits link_fli
 
 -- all groups of a leaf. link_channel + link_flit is one less than the bits of a link's word
 pub record LeafRuns (p : Plan) (n : ℕ) (names : LeafNames) (nets : NetNames) (q : PortNames) (base : ℕ
-    → ℕ) (size : BufferSize) (slot_high dest_bits link_flit link_channel : ℕ) (enters : ℕ → ℕ
-    → Expr) (w : Widths) (v u : Values) : Type 0 where
+    → ℕ) (size : BufferSize) (slot_high dest_bits link_flit link_channel : ℕ) (w : Widths) (v u : Values)
+    : Type 0 where
   pub leaving : (o : ℕ) → HasLink p n o → Moves (slot_group (names.slot (leaving_slot p n o)) slot_high p.slots
       (length p.domains) (leaving_slot p n o)) w v u
   pub arriving : (port m : ℕ) → neighbour p n port ≡ Some m
@@ -325,14 +358,7 @@ pub record LeafRuns (p : Plan) (n : ℕ) (names : LeafNames) (nets : NetNames) (
       (length p.domains) (p.stages - 1)) w v u
   pub arrivals : (port : ℕ) → HasLink p n port → HoldsIn (arrival_group p n nets q size dest_bits port) w v
   pub domains : (d : ℕ) → d < length p.domains → DomainRuns p n d names nets q base size dest_bits link_flit
-      link_channel (enters d) w v u
-
--- what groups show that are not here yet
-pub record LeafBorrowed (p : Plan) (n : ℕ) (names : LeafNames) (nets : NetNames)
-    (dest_bits : ℕ) (enters : ℕ → ℕ → Expr) (w : Widths) (v u : Values) (t : ℕ) (s : ℕ
-    → Tile) (i : ℕ → TileIn) : Type 0 where
-  pub domains : (d : ℕ) → d < length p.domains → Borrowed p n d names nets dest_bits (enters d) w v u (pos t) (s d)
-      (i d)
+      link_channel w v u
 
 -- the rows after a shift: what the owner sends enters
 abbrev pub next_shared : Plan → ℕ → ℕ → (ℕ → Tile) → (ℕ → TileIn) → (ℕ → ℕ → Option LinkFlit) → ℕ → ℕ → Option LinkFlit
@@ -353,8 +379,7 @@ rows_at p n i (suc t) o j = next_shared p n t (state_at p n i t) (i t) (rows_at 
 
 -- ---- reset
 
--- the registers of a domain's groups have their reset constants, and those of groups that are not here yet are the
--- start's
+-- the registers of a domain's groups have their reset constants
 pub record DomainStarts (p : Plan) (n d : ℕ) (names : LeafNames) (nets : NetNames) (q : PortNames) (base : ℕ
     → ℕ) (size : BufferSize) (dest_bits : ℕ) (v : Values) : Type 0 where
   pub alloc : (o : ℕ) → HasPort p n d o → AllReset v (alloc_group p d n o (names.alloc d o) (alloc_size p d o)).moves
@@ -366,9 +391,8 @@ pub record DomainStarts (p : Plan) (n d : ℕ) (names : LeafNames) (nets : NetNa
   pub pulses : (port : ℕ) → HasLink p n port → AllReset v (pulse_group p names nets d port).moves
   pub buffers : (port c : ℕ) → HasPlace p n d port c → AllReset v (fifo_items
       (names.buffer d port c) size.bh size.lh size.wh)
-  pub packet : hosts p n d ≡ true → (v.net (names.passing d) ≡ 0) × (v.net (names.dropping d) ≡ 0)
-  pub current : hosts p n d ≡ true → v.net (names.current d) ≡ 0
-  pub dropped : hosts p n d ≡ true → v.net (names.dropped d) ≡ 0
+  pub attach : hosts p n d ≡ true → AllReset v (attach_group p n d (attach_names names nets d) q
+      (attach_size p size dest_bits d)).moves
   pub ejected : hosts p n d ≡ true → AllReset v (eject_group p n names nets q dest_bits d).moves
 
 -- the items of all groups hold at reset

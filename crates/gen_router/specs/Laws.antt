@@ -4,7 +4,7 @@ use Rattle.gen_router.specs.Alloc.{AllocIn, AllocNames, AllocSize, AllocTie, Fit
 use Rattle.gen_router.specs.Buffers.{Arrives, BufferIn, BufferSize, BufferTie, arrival_push, buffer_group, is_filled}
 use Rattle.gen_router.specs.Counts.{CreditIn, IdleIn, credit_group, idle_group}
 use Rattle.gen_router.specs.Fits.{AllDeclare, AllFit}
-use Rattle.gen_router.specs.Glue.{GlueFits, LeafBorrowed, LeafRuns, LeafStarts, Moves, NetNames, at_or, next_shared, rows_at, state_at}
+use Rattle.gen_router.specs.Glue.{GlueFits, LeafRuns, LeafStarts, Moves, NetNames, at_or, next_shared, rows_at, state_at}
 use Rattle.gen_kit.specs.Groups.{Group, GroupGives, GroupKeeps, all_items}
 use Rattle.vl_model.specs.Parts.{AllHold, AllStep}
 use Rattle.gen_router.specs.Links.{LinkIn, LinkNames, LinkTie, link_group}
@@ -158,11 +158,10 @@ LeavesShown = (p : Plan) (d n : ℕ) (a : SwitchNames) (z : SwitchSize)
 -- An edge keeps the tie of a leaf to the tile parts of all domains.
 abbrev pub LeafKept : Type 0
 LeafKept = (p : Plan) (n : ℕ) (names : LeafNames) (nets : NetNames) (q : PortNames) (base : ℕ
-    → ℕ) (size : BufferSize) (slot_high dest_bits link_flit link_channel : ℕ) (enters : ℕ → ℕ → Expr)
+    → ℕ) (size : BufferSize) (slot_high dest_bits link_flit link_channel : ℕ)
     (w : Widths) (v u : Values) (t : ℕ) (s : ℕ → Tile) (i : ℕ → TileIn) (shared : ℕ → ℕ → Option LinkFlit)
     → IsSound p → n < tiles p → GlueFits p size slot_high dest_bits link_flit link_channel
-    → LeafRuns p n names nets q base size slot_high dest_bits link_flit link_channel enters w v u
-    → LeafBorrowed p n names nets dest_bits enters w v u t s i
+    → LeafRuns p n names nets q base size slot_high dest_bits link_flit link_channel w v u
     → LeafIn p n q base dest_bits link_flit link_channel v t s i
     → LeafTie p n names size dest_bits link_flit link_channel v t s shared
     → LeafTie p n names size dest_bits link_flit link_channel u (suc t) (λ d. tile_step p d n (pos t) (s d) (i d))
@@ -171,12 +170,10 @@ LeafKept = (p : Plan) (n : ℕ) (names : LeafNames) (nets : NetNames) (q : PortN
 -- From reset on the tie stands in every cycle, with any first content of memories.
 abbrev pub LeafRun : Type 0
 LeafRun = (p : Plan) (n : ℕ) (names : LeafNames) (nets : NetNames) (q : PortNames) (base : ℕ
-    → ℕ) (size : BufferSize) (slot_high dest_bits link_flit link_channel : ℕ) (enters : ℕ → ℕ → Expr)
+    → ℕ) (size : BufferSize) (slot_high dest_bits link_flit link_channel : ℕ)
     (w : Widths) (v : ℕ → Values) (i : ℕ → ℕ → TileIn) → IsSound p → n < tiles p
     → GlueFits p size slot_high dest_bits link_flit link_channel
-    → ((t : ℕ) → LeafRuns p n names nets q base size slot_high dest_bits link_flit link_channel enters w (v t) (v (suc t)))
-    → ((t : ℕ) → LeafBorrowed p n names nets dest_bits enters w (v t) (v (suc t)) t
-    (state_at p n i t) (i t))
+    → ((t : ℕ) → LeafRuns p n names nets q base size slot_high dest_bits link_flit link_channel w (v t) (v (suc t)))
     → ((t : ℕ) → LeafIn p n q base dest_bits link_flit link_channel (v t) t (state_at p n i t) (i t))
     → LeafStarts p n names nets q base size slot_high dest_bits link_flit link_channel (v 0)
     → (t : ℕ) → LeafTie p n names size dest_bits link_flit link_channel (v t) t (state_at p n i t) (rows_at p n i t)
