@@ -140,7 +140,7 @@ abbrev sent_code : ℕ → Option LinkFlit → ℕ
 sent_code dest_bits None = 0
 sent_code dest_bits (Some x) = flit_code dest_bits x.flit
 
-port-has : (p : Plan) (n d port : ℕ) → HasPort p n d port → has_port p n d port ≡ true
+pub port-has : (p : Plan) (n d port : ℕ) → HasPort p n d port → has_port p n d port ≡ true
 port-has p n d zero h = h
 port-has p n d (suc port) h = h.1
 

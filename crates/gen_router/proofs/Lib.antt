@@ -19,3 +19,5 @@ pub mod Homes
 pub mod Whole
 pub mod Started
 pub mod Leaves
+pub mod Members
+pub mod Grouped

@@ -65,7 +65,7 @@ alloc-starts p d n o a z v e = record {
   pointer = rotate-starts a.choice z.high v (held-front (Reset v) (rotate_group a.choice z.high).moves (active_moves a z) e.1.1);
 }
 
-slot-below : (p : Plan) (n : ℕ) (t : ℤ) (way : Way) → 1 ≤ length p.slots → slot_of p n t way < length p.slots
+pub slot-below : (p : Plan) (n : ℕ) (t : ℤ) (way : Way) → 1 ≤ length p.slots → slot_of p n t way < length p.slots
 slot-below p n t Local some = omega arith
 slot-below p n t (Plus i) some = modulo-below (length p.slots) _ some
 slot-below p n t (Minus i) some = modulo-below (length p.slots) _ some

@@ -6,7 +6,8 @@ use Rattle.gen_router.specs.Counts.{CreditIn, IdleIn, credit_group, idle_group}
 use Rattle.gen_router.specs.Fits.{AllDeclare, AllFit}
 use Rattle.gen_router.specs.Glue.{GlueFits, LeafRuns, LeafStarts, Moves, NetNames, at_or, next_shared, rows_at, state_at}
 use Rattle.gen_kit.specs.Groups.{Group, GroupGives, GroupKeeps, all_items}
-use Rattle.vl_model.specs.Parts.{AllHold, AllStep}
+use Rattle.gen_router.specs.Whole.{Joined, leaf_groups}
+use Rattle.vl_model.specs.Parts.{AllHold, AllStep, Runs}
 use Rattle.gen_router.specs.Links.{LinkIn, LinkNames, LinkTie, link_group}
 use Rattle.gen_kit.specs.Masks.{mask}
 use Rattle.gen_router.specs.Places.{ends_at, is_active, is_idle, leaves_at, stage_at}
@@ -183,3 +184,13 @@ abbrev pub GroupsMove : Type 0
 GroupsMove = (gs : List Group) (w : Widths) (v u : Values) → AllHold w v (all_items gs)
     → AllHold w u (all_items gs) → AllStep w v u (all_items gs) → (k : ℕ) (g : Group) → k < length gs
     → Moves (at_or gs k g) w v u
+
+-- A leaf whose items are those of all groups holds the tile parts of all domains in every cycle.
+abbrev pub GroupsRun : Type 0
+GroupsRun = (p : Plan) (n : ℕ) (names : LeafNames) (nets : NetNames) (q : PortNames) (base : ℕ
+    → ℕ) (size : BufferSize) (slot_high dest_bits link_flit link_channel : ℕ)
+    (w : Widths) (v : ℕ → Values) (i : ℕ → ℕ → TileIn) → IsSound p → n < tiles p
+    → GlueFits p size slot_high dest_bits link_flit link_channel → Joined p n names nets q w
+    → Runs (all_items (leaf_groups p n names nets q base size slot_high dest_bits link_flit link_channel)) w v
+    → ((t : ℕ) → LeafIn p n q base dest_bits link_flit link_channel (v t) t (state_at p n i t) (i t))
+    → (t : ℕ) → LeafTie p n names size dest_bits link_flit link_channel (v t) t (state_at p n i t) (rows_at p n i t)

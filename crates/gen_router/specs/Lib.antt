@@ -10,4 +10,5 @@ pub mod Links
 pub mod Counts
 pub mod Fits
 pub mod Glue
+pub mod Whole
 pub mod Laws

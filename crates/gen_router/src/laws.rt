@@ -1,5 +1,5 @@
 //! Laws over the definitions.
-ghost use Rattle.gen_router.specs.Laws.{AllocKept, SlotKept, SlotShown, LeavingOwner, ArrivingOwner, BufferKept, ArrivalPushes, ReadyShown, TurnsKept, ChoicesKept, OnShown, FreedShown, LinkKept, IdleKept, CreditKept, RotateNetsFit, ClassNetsFit, OwnDrivers, InOrderTogether, LeavesShown, LeafKept, LeafRun, GroupsMove};
+ghost use Rattle.gen_router.specs.Laws.{AllocKept, SlotKept, SlotShown, LeavingOwner, ArrivingOwner, BufferKept, ArrivalPushes, ReadyShown, TurnsKept, ChoicesKept, OnShown, FreedShown, LinkKept, IdleKept, CreditKept, RotateNetsFit, ClassNetsFit, OwnDrivers, InOrderTogether, LeavesShown, LeafKept, LeafRun, GroupsMove, GroupsRun};
 
 /// An edge keeps who waits for an output, who holds which channel, and the pointer, as a step has them.
 pub fn alloc_kept()
@@ -114,4 +114,9 @@ pub fn leaf_run()
 /// Where a leaf's items are those of some groups, each of the groups moves over an edge.
 pub fn groups_move()
     ensures { GroupsMove }
+{}
+
+/// A leaf whose items are those of all groups holds the tile parts of all domains in every cycle.
+pub fn groups_run()
+    ensures { GroupsRun }
 {}
