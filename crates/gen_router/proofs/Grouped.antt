@@ -1,9 +1,9 @@
 -- A leaf whose items are those of all groups has each group, so the tie stands in every cycle.
-use Rattle.std.proofs.Common.{◌≡◌, ℕ, zero, suc, ◌+◌, ◌-◌, ◌<◌, ◌≤◌, inl, inr, Bool, true, false, List, [], ◌∷◌, ◌++◌, length, Option, refl, ◌∙◌, ap, arith, ◌==◌, ◌||◌}
+use Rattle.std.proofs.Common.{subst, ◌≡◌, ℕ, zero, suc, ◌+◌, ◌-◌, ◌<◌, ◌≤◌, inl, inr, Bool, true, false, List, [], ◌∷◌, ◌++◌, length, Option, refl, ◌∙◌, ap, arith, ◌==◌, ◌||◌}
 use Rattle.std.specs.Prelude.{Some, None, is_some, if◌then◌else◌, pos, ◌-ℤ◌}
 use Rattle.std.proofs.lemmas.Bool.Decides.{nat_tests}
 use Rattle.vl_model.specs.Meaning.{Widths, Values}
-use Rattle.vl_model.specs.Leaf.{Reset}
+use Rattle.vl_model.specs.Leaf.{Reset, leaf_widths, IsLeafRun}
 use Rattle.vl_model.specs.Parts.{AllHold, AllStep, AllReset, Runs}
 use Rattle.gen_buffer.specs.Fifo.{fifo_items}
 use Rattle.gen_kit.specs.Groups.{Group, all_items, HoldsIn}
@@ -11,7 +11,10 @@ use Rattle.noc_model.specs.Plan.{Plan, channels, link_channels, ports, tiles, ho
 use Rattle.noc_model.specs.Place.{neighbour, opposite, way_of}
 use Rattle.noc_model.specs.Sound.{IsSound}
 use Rattle.noc_model.specs.Tile.{TileIn}
-use Rattle.vl_tree.specs.Values.{net, bit}
+use Rattle.vl_tree.specs.Values.{Name, Leaf, Design, net, bit}
+use Rattle.vl_model.specs.Rules.{IsSound as IsSoundDesign}
+use Rattle.vl_model.specs.Lines.{leaf_named}
+use Rattle.vl_model.proofs.Held.{parts-hold}
 use Rattle.gen_router.specs.Alloc.{alloc_group}
 use Rattle.gen_router.specs.Switch.{switch_group}
 use Rattle.gen_router.specs.Buffers.{BufferSize, buffer_group}
@@ -247,3 +250,19 @@ groups-run p n names nets q base size slot_high dest_bits link_flit link_channel
     (λ t. leaf-runs p n names nets q base size slot_high dest_bits link_flit link_channel w (v t) (v (suc t)) sound.slot_count.0 joined (run.holds t) (run.holds (suc t)) (run.steps t))
     input
     (leaf-resets p n names nets q base size slot_high dest_bits link_flit link_channel (v 0) sound.slot_count.0 run.starts)
+
+-- the leaf of a sound design, in any run
+pub text-run : (p : Plan) (n : ℕ) (names : LeafNames) (nets : NetNames) (q : PortNames) (base : ℕ → ℕ) (size : BufferSize) (slot_high dest_bits link_flit link_channel : ℕ)
+    (design : Design) (name : Name) (l : Leaf) (v : ℕ → Values) (i : ℕ → ℕ → TileIn) → IsSound p → n < tiles p → GlueFits p size slot_high dest_bits link_flit link_channel
+    → IsSoundDesign design → leaf_named design.leaves name ≡ Some l → l.items ≡ all_items (leaf_groups p n names nets q base size slot_high dest_bits link_flit link_channel)
+    → Joined p n names nets q (leaf_widths l) → IsLeafRun l v
+    → ((t : ℕ) → LeafIn p n q base dest_bits link_flit link_channel (v t) t (state_at p n i t) (i t))
+    → (t : ℕ) → LeafTie p n names size dest_bits link_flit link_channel (v t) t (state_at p n i t) (rows_at p n i t)
+text-run p n names nets q base size slot_high dest_bits link_flit link_channel design name l v i sound inside fits right named is joined run input =
+    groups-run p n names nets q base size slot_high dest_bits link_flit link_channel (leaf_widths l) v i sound inside fits joined
+    (record {
+      holds = λ t. subst (AllHold (leaf_widths l) (v t)) is (parts-hold design right name l named (v t) (run.right t));
+      starts = subst (AllReset (v 0)) is run.starts;
+      steps = λ t. subst (AllStep (leaf_widths l) (v t) (v (suc t))) is (run.edges t);
+    })
+    input

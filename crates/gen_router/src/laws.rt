@@ -1,5 +1,5 @@
 //! Laws over the definitions.
-ghost use Rattle.gen_router.specs.Laws.{AllocKept, SlotKept, SlotShown, LeavingOwner, ArrivingOwner, BufferKept, ArrivalPushes, ReadyShown, TurnsKept, ChoicesKept, OnShown, FreedShown, LinkKept, IdleKept, CreditKept, RotateNetsFit, ClassNetsFit, OwnDrivers, InOrderTogether, LeavesShown, LeafKept, LeafRun, GroupsMove, GroupsRun};
+ghost use Rattle.gen_router.specs.Laws.{AllocKept, SlotKept, SlotShown, LeavingOwner, ArrivingOwner, BufferKept, ArrivalPushes, ReadyShown, TurnsKept, ChoicesKept, OnShown, FreedShown, LinkKept, IdleKept, CreditKept, RotateNetsFit, ClassNetsFit, OwnDrivers, InOrderTogether, LeavesShown, LeafKept, LeafRun, GroupsMove, GroupsRun, TextRun};
 
 /// An edge keeps who waits for an output, who holds which channel, and the pointer, as a step has them.
 pub fn alloc_kept()
@@ -119,4 +119,9 @@ pub fn groups_move()
 /// A leaf whose items are those of all groups holds the tile parts of all domains in every cycle.
 pub fn groups_run()
     ensures { GroupsRun }
+{}
+
+/// So does such a leaf in a sound design, in each of its runs.
+pub fn text_run()
+    ensures { TextRun }
 {}
