@@ -116,6 +116,30 @@ next-modulo c count m below le = go (c == count - 1) refl
         let less : c + 1 < count = grind (arith, below, other) in
         mod-eq_of_lt (omega (arith, less, le)) ∙ sym (mod-eq_of_lt less)
 
+room-shown : (p : Plan) (d : ℕ) (a : AttachNames) (z : AttachSize) (w : Widths) (v : Values) (s : Tile) → v.net a.current ≡ s.current → s.current < channels p d
+    → ((c : ℕ) → c < channels p d → v.net (a.count c) ≡ length (s.queue 0 c)) → value_of w v (room_expr p d a z) ≡ one_if (nat_lt (length (s.queue 0 s.current)) p.buffer)
+room-shown p d a z w v s current few counts =
+    or-bits w v (λ c. two And (two Equal (net a.current) (in_bits (z.ch + 1) c)) (two Less (net (a.count c)) (in_bits (z.lh + 1) p.buffer))) has (channels p d - 1)
+    (λ c le. rw (current, counts c (omega (arith, few, le))) (bit-and (s.current == c) (nat_lt (length (s.queue 0 c)) p.buffer)))
+    ∙ ap one_if (any-lone (channels p d - 1) s.current has (omega (arith, few)) (λ k other. (let differ : (s.current == k) ≡ false = grind (arith, nat_tests) in rw differ refl)) ∙ rw self refl)
+  where
+    self : (s.current == s.current) ≡ true
+    self = grind (arith, nat_tests)
+
+    has : ℕ → Bool
+    has c = (s.current == c) && nat_lt (length (s.queue 0 c)) p.buffer
+
+-- whether a word would be taken
+pub open-shown : (p : Plan) (d : ℕ) (a : AttachNames) (z : AttachSize) (w : Widths) (v : Values) (s : Tile) → PacketTie a.passing a.dropping a.dest v s.packet → v.net a.current ≡ s.current → s.current < channels p d
+    → ((c : ℕ) → c < channels p d → v.net (a.count c) ≡ length (s.queue 0 c)) → bit_or (v.net a.dropping) (value_of w v (room_expr p d a z)) ≡ one_if (is_open p s)
+unfolding is_open
+open-shown p d a z w v s packet current few counts = ap (bit_or (v.net a.dropping)) (room-shown p d a z w v s current few counts) ∙ go s.packet packet (nat_lt (length (s.queue 0 s.current)) p.buffer) refl
+  where
+    go : (k : Packet) → PacketTie a.passing a.dropping a.dest v k → (r : Bool) → nat_lt (length (s.queue 0 s.current)) p.buffer ≡ r → bit_or (v.net a.dropping) (one_if r) ≡ one_if (is_ready_packet k (length (s.queue 0 s.current)) p.buffer)
+    go Between h r e = rw (h.1, e) (bit-or false r)
+    go (Passing to) h r e = rw (h.1, e) (bit-or false r)
+    go Dropping h r e = rw h.1 (bit-or true r)
+
 module _ (p : Plan) (n d : ℕ) (a : AttachNames) (q : PortNames) (z : AttachSize) (w : Widths) (v u : Values) (s : Tile) (i : TileIn)
     (hold : HoldsIn (attach_group p n d a q z) w v) (step : StepsIn (attach_group p n d a q z) w v u) (from : AttachIn p n d a q z w v s i)
     (apart : AllPairs AreApart p.ranges) (inside : (t : ℕ) → hosts p t d ≡ true → t < 2 ^ z.dest_bits) (sound : IsSoundPacket p d s.packet) where
@@ -203,26 +227,8 @@ module _ (p : Plan) (n d : ℕ) (a : AttachNames) (q : PortNames) (z : AttachSiz
 
   -- ---- what is taken
 
-  room-is : value_of w v (room_expr p d a z) ≡ one_if (nat_lt (length (s.queue 0 s.current)) p.buffer)
-  room-is =
-      or-bits w v (λ c. two And (two Equal (net a.current) (in_bits (z.ch + 1) c)) (two Less (net (a.count c)) (in_bits (z.lh + 1) p.buffer))) has (channels p d - 1)
-      (λ c le. rw (from.current, from.counts c (let few = from.few in omega (arith, few, le))) (bit-and (s.current == c) (nat_lt (length (s.queue 0 c)) p.buffer)))
-      ∙ ap one_if (any-lone (channels p d - 1) s.current has (let few = from.few in omega (arith, few)) (λ k other. (let differ : (s.current == k) ≡ false = grind (arith, nat_tests) in rw differ refl)) ∙ rw self refl)
-    where
-      self : (s.current == s.current) ≡ true
-      self = grind (arith, nat_tests)
-
-      has : ℕ → Bool
-      has c = (s.current == c) && nat_lt (length (s.queue 0 c)) p.buffer
-
   opened : bit_or (v.net a.dropping) (value_of w v (room_expr p d a z)) ≡ one_if (is_open p s)
-  unfolding is_open
-  opened = ap (bit_or (v.net a.dropping)) room-is ∙ go s.packet from.packet (nat_lt (length (s.queue 0 s.current)) p.buffer) refl
-    where
-      go : (k : Packet) → PacketTie a.passing a.dropping a.dest v k → (r : Bool) → nat_lt (length (s.queue 0 s.current)) p.buffer ≡ r → bit_or (v.net a.dropping) (one_if r) ≡ one_if (is_ready_packet k (length (s.queue 0 s.current)) p.buffer)
-      go Between h r e = rw (h.1, e) (bit-or false r)
-      go (Passing to) h r e = rw (h.1, e) (bit-or false r)
-      go Dropping h r e = rw h.1 (bit-or true r)
+  opened = open-shown p d a z w v s from.packet from.current from.few from.counts
 
   -- either no word is taken, or one that the ports show
   taken-is : ((v.net a.taken ≡ 0) × (word_in p s i ≡ None))

@@ -531,6 +531,12 @@ module _ (p : Plan) (n d : ℕ) (names : LeafNames) (nets : NetNames) (q : PortN
       at-link zero away few = absurd (away refl)
       at-link (suc k) away few = few
 
+  pub sent-payload : (o : ℕ) (x : LinkFlit) → sent p d n (pos t) (s d) (i d) o ≡ Some x → IsWord x.flit
+  sent-payload o x e =
+      let from = sent-from p d n (pos t) (s d) (i d) o x e in
+      let fs = list-front ((s d).queue from.port from.c) x.flit from.flit in
+      (small from.port from.c x.flit fs.0 fs.1).1
+
   pub sent-words : (o : ℕ) → HasLink p n o → v.net (nets.word d o) ≡ link_code (flit_code dest_bits) link_flit link_channel (sent p d n (pos t) (s d) (i d) o)
   sent-words o link =
       (runs.sends o link).nets.1.0
@@ -617,6 +623,19 @@ module _ (p : Plan) (n d : ℕ) (names : LeafNames) (nets : NetNames) (q : PortN
           ∙ shown
           ∙ ap (λ k. 1 * 2 ^ (2 + 32) + (k / 2 ^ (32 + dest_bits) % 2 ^ (33 + dest_bits - (32 + dest_bits) + 1) * 2 ^ 32 + k / 2 ^ 0 % 2 ^ (31 - 0 + 1))) code
           ∙ eject-word dest_bits x.flit fit.0 fit.1
+
+  held-kept : (f : Flit) → next.ejected ≡ Some f → IsWord f
+  unfolding next tile_step
+  held-kept f e = go (sent p d n (pos t) (s d) (i d) 0) refl (i d).hears e
+    where
+      go : (x : Option LinkFlit) → sent p d n (pos t) (s d) (i d) 0 ≡ x → (b : Bool) → next_ejected x b (s d).ejected ≡ Some f → IsWord f
+      go None is true h = absurd (cc h)
+      go None is false h = tie.held f h
+      go (Some x) is b h =
+          let from = sent-from p d n (pos t) (s d) (i d) 0 x is in
+          let fs = list-front ((s d).queue from.port from.c) x.flit from.flit in
+          let same : x.flit ≡ f = cc h in
+          subst IsWord same (small from.port from.c x.flit fs.0 fs.1).1
 
   -- ---- buffers
 
@@ -793,6 +812,7 @@ module _ (p : Plan) (n d : ℕ) (names : LeafNames) (nets : NetNames) (q : PortN
     absent = λ port c none. absent-kept p n d (pos t) (s d) (i d) port c may tie.sound.current none (tie.absent port c none);
     sound = after;
     within = λ o x link. within-kept p n d (pos t) (s d) (i d) o x may link (tie.within o x link);
+    held = held-kept;
     words = λ port c. words-kept p n d (pos t) (s d) (i d) port c (λ k x e. (let by = arrives-by k x e in arrives-word k by.0 by.1 x e)) (input.payloads d) (tie.words port c);
     short = λ port c. short-kept p n d (pos t) (pos (suc t)) (s d) (i d) port c may after (tie.short port c);
     home = λ e port c. away-kept p n d (pos t) (s d) (i d) port c (λ f h. away-home p d n f.dest sound here h e) (tie.sound.queued port c) (tie.home e port c);

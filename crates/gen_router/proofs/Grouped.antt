@@ -68,7 +68,7 @@ uses-arriving p n port m e =
     last true = refl
     last false = refl
 
-module _ (p : Plan) (n : ℕ) (names : LeafNames) (nets : NetNames) (q : PortNames) (base : ℕ → ℕ) (size : BufferSize) (slot_high dest_bits link_flit link_channel : ℕ) where
+module _ (p : Plan) (n : ℕ) (names : LeafNames) (nets : NetNames) (q : PortNames) (base : ℕ → ℕ) (size : BufferSize) (slot_high dest_bits link_flit link_channel : ℕ) (others : List Group) where
   gs : List Group
   gs = leaf_groups p n names nets q base size slot_high dest_bits link_flit link_channel
 
@@ -153,12 +153,12 @@ module _ (p : Plan) (n : ℕ) (names : LeafNames) (nets : NetNames) (q : PortNam
 
   -- ---- an edge
 
-  module _ (w : Widths) (v u : Values) (some : 1 ≤ length p.slots) (joined : Joined p n names nets q w) (now : AllHold w v (all_items gs)) (later : AllHold w u (all_items gs)) (steps : AllStep w v u (all_items gs)) where
+  module _ (w : Widths) (v u : Values) (some : 1 ≤ length p.slots) (joined : Joined p n names nets q w) (now : AllHold w v (all_items (gs ++ others))) (later : AllHold w u (all_items (gs ++ others))) (steps : AllStep w v u (all_items (gs ++ others))) where
     holds : (g : Group) → Member g gs → HoldsIn g w v
-    holds g m = holds-in g gs w v m now
+    holds g m = holds-in g (gs ++ others) w v (in-front g gs others m) now
 
     moves : (g : Group) → Member g gs → Moves g w v u
-    moves g m = moves-in g gs w v u m now later steps
+    moves g m = moves-in g (gs ++ others) w v u (in-front g gs others m) now later steps
 
     domain-runs : (d : ℕ) → d < length p.domains → DomainRuns p n d names nets q base size dest_bits link_flit link_channel w v u
     domain-runs d there = record {
@@ -204,9 +204,9 @@ module _ (p : Plan) (n : ℕ) (names : LeafNames) (nets : NetNames) (q : PortNam
 
   -- ---- reset
 
-  module _ (v : Values) (some : 1 ≤ length p.slots) (start : AllReset v (all_items gs)) where
+  module _ (v : Values) (some : 1 ≤ length p.slots) (start : AllReset v (all_items (gs ++ others))) where
     resets : (g : Group) → Member g gs → AllReset v g.moves
-    resets g m = its-moves g gs m (Reset v) start
+    resets g m = its-moves g (gs ++ others) (in-front g gs others m) (Reset v) start
 
     domain-resets : (d : ℕ) → d < length p.domains → DomainStarts p n d names nets q base size dest_bits v
     domain-resets d there = record {
@@ -223,12 +223,12 @@ module _ (p : Plan) (n : ℕ) (names : LeafNames) (nets : NetNames) (q : PortNam
     }
       where
         buffer-starts : (port c : ℕ) → HasPlace p n d port c → AllReset v (fifo_items (names.buffer d port c) size.bh size.lh size.wh)
-        buffer-starts zero c place = (its-heads (buffer_group (names.buffer d 0 c) size (enter_at (attach_names names nets d) (attach_size p size dest_bits d) c) (pop_of p nets d 0 c)) gs (entered-member d there c place.0 place.1) (Reset v) start).1.1
+        buffer-starts zero c place = (its-heads (buffer_group (names.buffer d 0 c) size (enter_at (attach_names names nets d) (attach_size p size dest_bits d) c) (pop_of p nets d 0 c)) (gs ++ others) (in-front (buffer_group (names.buffer d 0 c) size (enter_at (attach_names names nets d) (attach_size p size dest_bits d) c) (pop_of p nets d 0 c)) gs others (entered-member d there c place.0 place.1)) (Reset v) start).1.1
         buffer-starts (suc port) c place = go (neighbour p n (suc port)) refl place.0.1
           where
             go : (x : Option ℕ) → neighbour p n (suc port) ≡ x → is_some x ≡ true → AllReset v (fifo_items (names.buffer d (suc port) c) size.bh size.lh size.wh)
             go None e h = absurd (cc h)
-            go (Some m) e h = (its-heads (buffer_group (names.buffer d (suc port) c) size (link_push p names q link_flit link_channel d (suc port) m c) (pop_of p nets d (suc port) c)) gs (linked-member d there (suc port) m c e place.1) (Reset v) start).1.1
+            go (Some m) e h = (its-heads (buffer_group (names.buffer d (suc port) c) size (link_push p names q link_flit link_channel d (suc port) m c) (pop_of p nets d (suc port) c)) (gs ++ others) (in-front (buffer_group (names.buffer d (suc port) c) size (link_push p names q link_flit link_channel d (suc port) m c) (pop_of p nets d (suc port) c)) gs others (linked-member d there (suc port) m c e place.1)) (Reset v) start).1.1
 
     leaf-resets : LeafStarts p n names nets q base size slot_high dest_bits link_flit link_channel v
     leaf-resets = record {
@@ -239,27 +239,27 @@ module _ (p : Plan) (n : ℕ) (names : LeafNames) (nets : NetNames) (q : PortNam
       domains = domain-resets;
     }
 
-pub groups-run : (p : Plan) (n : ℕ) (names : LeafNames) (nets : NetNames) (q : PortNames) (base : ℕ → ℕ) (size : BufferSize) (slot_high dest_bits link_flit link_channel : ℕ)
+pub groups-run : (p : Plan) (n : ℕ) (names : LeafNames) (nets : NetNames) (q : PortNames) (base : ℕ → ℕ) (size : BufferSize) (slot_high dest_bits link_flit link_channel : ℕ) (others : List Group)
     (w : Widths) (v : ℕ → Values) (i : ℕ → ℕ → TileIn) → IsSound p → n < tiles p → GlueFits p size slot_high dest_bits link_flit link_channel → Joined p n names nets q w
-    → Runs (all_items (leaf_groups p n names nets q base size slot_high dest_bits link_flit link_channel)) w v
+    → Runs (all_items (leaf_groups p n names nets q base size slot_high dest_bits link_flit link_channel ++ others)) w v
     → ((t : ℕ) → LeafIn p n q base dest_bits link_flit link_channel (v t) t (state_at p n i t) (i t))
     → (t : ℕ) → LeafTie p n names size dest_bits link_flit link_channel (v t) t (state_at p n i t) (rows_at p n i t)
 unfolding gs
-groups-run p n names nets q base size slot_high dest_bits link_flit link_channel w v i sound inside fits joined run input =
+groups-run p n names nets q base size slot_high dest_bits link_flit link_channel others w v i sound inside fits joined run input =
     leaf-run-reset p n names nets q base size slot_high dest_bits link_flit link_channel w v i sound inside fits
-    (λ t. leaf-runs p n names nets q base size slot_high dest_bits link_flit link_channel w (v t) (v (suc t)) sound.slot_count.0 joined (run.holds t) (run.holds (suc t)) (run.steps t))
+    (λ t. leaf-runs p n names nets q base size slot_high dest_bits link_flit link_channel others w (v t) (v (suc t)) sound.slot_count.0 joined (run.holds t) (run.holds (suc t)) (run.steps t))
     input
-    (leaf-resets p n names nets q base size slot_high dest_bits link_flit link_channel (v 0) sound.slot_count.0 run.starts)
+    (leaf-resets p n names nets q base size slot_high dest_bits link_flit link_channel others (v 0) sound.slot_count.0 run.starts)
 
 -- the leaf of a sound design, in any run
-pub text-run : (p : Plan) (n : ℕ) (names : LeafNames) (nets : NetNames) (q : PortNames) (base : ℕ → ℕ) (size : BufferSize) (slot_high dest_bits link_flit link_channel : ℕ)
+pub text-run : (p : Plan) (n : ℕ) (names : LeafNames) (nets : NetNames) (q : PortNames) (base : ℕ → ℕ) (size : BufferSize) (slot_high dest_bits link_flit link_channel : ℕ) (others : List Group)
     (design : Design) (name : Name) (l : Leaf) (v : ℕ → Values) (i : ℕ → ℕ → TileIn) → IsSound p → n < tiles p → GlueFits p size slot_high dest_bits link_flit link_channel
-    → IsSoundDesign design → leaf_named design.leaves name ≡ Some l → l.items ≡ all_items (leaf_groups p n names nets q base size slot_high dest_bits link_flit link_channel)
+    → IsSoundDesign design → leaf_named design.leaves name ≡ Some l → l.items ≡ all_items (leaf_groups p n names nets q base size slot_high dest_bits link_flit link_channel ++ others)
     → Joined p n names nets q (leaf_widths l) → IsLeafRun l v
     → ((t : ℕ) → LeafIn p n q base dest_bits link_flit link_channel (v t) t (state_at p n i t) (i t))
     → (t : ℕ) → LeafTie p n names size dest_bits link_flit link_channel (v t) t (state_at p n i t) (rows_at p n i t)
-text-run p n names nets q base size slot_high dest_bits link_flit link_channel design name l v i sound inside fits right named is joined run input =
-    groups-run p n names nets q base size slot_high dest_bits link_flit link_channel (leaf_widths l) v i sound inside fits joined
+text-run p n names nets q base size slot_high dest_bits link_flit link_channel others design name l v i sound inside fits right named is joined run input =
+    groups-run p n names nets q base size slot_high dest_bits link_flit link_channel others (leaf_widths l) v i sound inside fits joined
     (record {
       holds = λ t. subst (AllHold (leaf_widths l) (v t)) is (parts-hold design right name l named (v t) (run.right t));
       starts = subst (AllReset (v 0)) is run.starts;

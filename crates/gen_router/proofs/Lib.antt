@@ -14,6 +14,7 @@ pub mod Sized
 pub mod Placed
 pub mod Looked
 pub mod Attached
+pub mod Outs
 pub mod Glued
 pub mod Homes
 pub mod Whole

@@ -100,6 +100,7 @@ domain-starts p n d names nets q base size dest_bits v sound there e = record {
   within = λ o x link. omega arith;
   short = λ port c. omega arith;
   words = λ port c. All-nil IsWord;
+  held = λ f x. absurd (cc x);
   home = λ off port c. (refl, refl);
 }
   where
@@ -113,6 +114,7 @@ leaf-starts p n names nets q base size slot_high dest_bits link_flit link_channe
   leaving = λ o link. slot-starts (names.slot (leaving_slot p n o)) slot_high p.slots (length p.domains) (leaving_slot p n o) (slot-below p n (pos 0) (way_of o) some) v (e.leaving o link);
   arriving = λ port m is. slot-starts (names.slot (arriving_slot p m (opposite port))) slot_high p.slots (length p.domains) (arriving_slot p m (opposite port)) (slot-below p m (pos 0 -ℤ pos p.stages) (way_of (opposite port)) some) v (e.arriving port m is);
   rows = λ o j link below. row o link j (omega (arith, below, last));
+  payloads = λ o j x link e. absurd (cc e);
   own = λ d o j link. nothing-own (owner p n o (filled_in (pos 0) j) == d);
   domains = λ d there. domain-starts p n d names nets q base size dest_bits v sound there (e.domains d there);
 }

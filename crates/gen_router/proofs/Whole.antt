@@ -1,5 +1,5 @@
 -- One edge keeps the tie of a leaf.
-use Rattle.std.proofs.Common.{◌≡◌, ℕ, zero, suc, ◌+◌, ◌-◌, ◌%◌, ◌<◌, ◌≤◌, length, Option, sym, ◌∙◌, ap, arith, subst, ◌==◌}
+use Rattle.std.proofs.Common.{Some, ◌≡◌, ℕ, zero, suc, ◌+◌, ◌-◌, ◌%◌, ◌<◌, ◌≤◌, length, Option, sym, ◌∙◌, ap, arith, subst, ◌==◌}
 use Rattle.std.specs.Prelude.{pos}
 use Rattle.std.proofs.Math.Nat.{mod-lt}
 use Rattle.vl_model.specs.Meaning.{Widths, Values, one_if}
@@ -13,12 +13,12 @@ use Rattle.noc_model.proofs.Ports.{way-linked, opposite-linked, linked-port}
 use Rattle.gen_router.specs.Buffers.{BufferSize, link_code}
 use Rattle.gen_router.specs.Slots.{leaving_slot, arriving_slot}
 use Rattle.gen_router.specs.Links.{LinkTie}
-use Rattle.gen_router.specs.Tie.{LeafNames, PortNames, HasLink, LeafTie, LeafIn, flit_code}
+use Rattle.gen_router.specs.Tie.{IsWord, LeafNames, PortNames, HasLink, LeafTie, LeafIn, flit_code}
 use Rattle.gen_router.specs.Glue.{NetNames, link_names, LeafRuns, LeafStarts, SlotsShown, GlueFits, next_shared, state_at, rows_at}
 use Rattle.gen_router.proofs.Slotted.{slot-kept, slot-shown, leaving-owner, arriving-owner}
 use Rattle.gen_router.proofs.Linked.{link-kept, own-kept}
 use Rattle.gen_router.proofs.Started.{leaf-starts}
-use Rattle.gen_router.proofs.Glued.{domain-kept, sent-words, port-link}
+use Rattle.gen_router.proofs.Glued.{domain-kept, sent-words, sent-payload, port-link}
 
 module _ (p : Plan) (n : ℕ) (names : LeafNames) (nets : NetNames) (q : PortNames) (base : ℕ → ℕ) (size : BufferSize) (slot_high dest_bits link_flit link_channel : ℕ)
     (w : Widths) (v u : Values) (t : ℕ) (s : ℕ → Tile) (i : ℕ → TileIn) (shared : ℕ → ℕ → Option LinkFlit)
@@ -58,11 +58,19 @@ module _ (p : Plan) (n : ℕ) (names : LeafNames) (nets : NetNames) (q : PortNam
       (record { owned = λ e below. owns o e there below; words = λ e below. sent-words p n e names nets q base size slot_high dest_bits link_flit link_channel w v u t s i sound below fits inside (runs.domains e below) runs.arrivals (shown e below) input (tie.domains e below) o there; some_owner = some-owner o there })
       (record { places = λ j below. tie.rows o j there (omega (arith, below, last)); own = λ d j. tie.own d o j (port-link p n o there) })
 
+  kept-payload : (o : ℕ) → HasLink p n o → (j : ℕ) (x : LinkFlit) → next_shared p n t s i shared o j ≡ Some x → IsWord x.flit
+  kept-payload o there zero x e =
+      let k : ℕ = owner p n o (pos t) in
+      let below = some-owner o there in
+      sent-payload p n k names nets q base size slot_high dest_bits link_flit link_channel w v u t s i sound below fits inside (runs.domains k below) runs.arrivals (shown k below) input (tie.domains k below) o x e
+  kept-payload o there (suc j) x e = tie.payloads o j x there e
+
   pub leaf-kept : LeafTie p n names size dest_bits link_flit link_channel u (suc t) (λ d. tile_step p d n (pos t) (s d) (i d)) (next_shared p n t s i shared)
   leaf-kept = record {
     leaving = λ o there. slot-kept (names.slot (leaving_slot p n o)) slot_high p.slots (length p.domains) (leaving_slot p n o) some fits.slots w v u (runs.leaving o there).now (runs.leaving o there).later (runs.leaving o there).steps t (tie.leaving o there);
     arriving = λ port m e. slot-kept (names.slot (arriving_slot p m (opposite port))) slot_high p.slots (length p.domains) (arriving_slot p m (opposite port)) some fits.slots w v u (runs.arriving port m e).now (runs.arriving port m e).later (runs.arriving port m e).steps t (tie.arriving port m e);
     rows = λ o j there below. (link o there).places j (omega (arith, below, last));
+    payloads = λ o j x there e. kept-payload o there j x e;
     own = λ d o j away. own-kept p n o t s i (shared o) away (λ e k. tie.own e o k away) d j;
     domains = λ d below. domain-kept p n d names nets q base size slot_high dest_bits link_flit link_channel w v u t s i sound below fits inside (runs.domains d below) runs.arrivals (shown d below) input (tie.domains d below);
   }

@@ -11,4 +11,5 @@ pub mod Counts
 pub mod Fits
 pub mod Glue
 pub mod Whole
+pub mod Outs
 pub mod Laws

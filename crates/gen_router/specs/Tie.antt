@@ -123,6 +123,7 @@ pub record DomainTie (p : Plan) (n d : ℕ) (names : LeafNames) (size : BufferSi
   pub within : (o x : ℕ) → HasLink p n o → s.credits o x ≤ p.buffer
   pub short : (port c : ℕ) → length (s.queue port c) ≤ p.buffer
   pub words : (port c : ℕ) → All IsWord (s.queue port c)
+  pub held : (f : Flit) → s.ejected ≡ Some f → IsWord f
   -- no packet goes by the local output where the tile doesn't host the domain
   pub home : hosts p n d ≡ false → (port c : ℕ) → (goes_by (s.stage port c) 0 ≡ false)
       × (waits_for (s.stage port c) 0 ≡ false)
@@ -137,6 +138,7 @@ pub record LeafTie (p : Plan) (n : ℕ) (names : LeafNames) (size : BufferSize) 
       (opposite port))) p.slots (arriving_slot p m (opposite port)) t v
   pub rows : (o i : ℕ) → HasLink p n o → i < p.stages → v.net (names.row o i) ≡ link_code
       (flit_code dest_bits) link_flit link_channel (shared o i)
+  pub payloads : (o i : ℕ) (x : LinkFlit) → HasLink p n o → shared o i ≡ Some x → IsWord x.flit
   pub own : (d o i : ℕ) → o ≢ 0 → (s d).row o i ≡ own_places p d n o (pos t) (shared o) i
   pub domains : (d : ℕ) → d < length p.domains → DomainTie p n d names size dest_bits v (pos t) (s d)
 

@@ -1,5 +1,5 @@
 //! Laws over the definitions.
-ghost use Rattle.gen_router.specs.Laws.{AllocKept, SlotKept, SlotShown, LeavingOwner, ArrivingOwner, BufferKept, ArrivalPushes, ReadyShown, TurnsKept, ChoicesKept, OnShown, FreedShown, LinkKept, IdleKept, CreditKept, RotateNetsFit, ClassNetsFit, OwnDrivers, InOrderTogether, LeavesShown, LeafKept, LeafRun, GroupsMove, GroupsRun, TextRun};
+ghost use Rattle.gen_router.specs.Laws.{AllocKept, SlotKept, SlotShown, LeavingOwner, ArrivingOwner, BufferKept, ArrivalPushes, ReadyShown, TurnsKept, ChoicesKept, OnShown, FreedShown, LinkKept, IdleKept, CreditKept, RotateNetsFit, ClassNetsFit, OwnDrivers, InOrderTogether, LeavesShown, LeafKept, LeafRun, GroupsMove, GroupsRun, TextRun, OutsShown};
 
 /// An edge keeps who waits for an output, who holds which channel, and the pointer, as a step has them.
 pub fn alloc_kept()
@@ -116,7 +116,7 @@ pub fn groups_move()
     ensures { GroupsMove }
 {}
 
-/// A leaf whose items are those of all groups holds the tile parts of all domains in every cycle.
+/// A leaf whose items are those of all groups, and of others, holds the tile parts of all domains in every cycle.
 pub fn groups_run()
     ensures { GroupsRun }
 {}
@@ -124,4 +124,9 @@ pub fn groups_run()
 /// So does such a leaf in a sound design, in each of its runs.
 pub fn text_run()
     ensures { TextRun }
+{}
+
+/// The output ports of a leaf that is tied to its tile show what the tile parts give out.
+pub fn outs_shown()
+    ensures { OutsShown }
 {}
