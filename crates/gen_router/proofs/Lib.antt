@@ -15,6 +15,7 @@ pub mod Placed
 pub mod Looked
 pub mod Attached
 pub mod Outs
+pub mod Enough
 pub mod Glued
 pub mod Homes
 pub mod Whole

@@ -7,6 +7,7 @@ use Rattle.gen_router.specs.Fits.{AllDeclare, AllFit}
 use Rattle.gen_router.specs.Glue.{GlueFits, LeafRuns, LeafStarts, Moves, NetNames, at_or, next_shared, rows_at, state_at}
 use Rattle.gen_kit.specs.Groups.{Group, GroupGives, GroupKeeps, HoldsIn, all_items}
 use Rattle.gen_router.specs.Outs.{LeafOut, OutNames, link_out_group, local_out_group}
+use Rattle.gen_router.specs.Sizes.{largest_size}
 use Rattle.gen_router.specs.Whole.{Joined, leaf_groups}
 use Rattle.vl_model.specs.Parts.{AllHold, AllStep, Runs}
 use Rattle.gen_router.specs.Links.{LinkIn, LinkNames, LinkTie, link_group}
@@ -220,3 +221,7 @@ OutsShown = (p : Plan) (n : ℕ) (names : LeafNames) (nets : NetNames) (out : Ou
     → HoldsIn (local_out_group p names nets out size dest_bits d) w v)
     → LeafTie p n names size dest_bits link_flit link_channel v t s shared
     → LeafOut p n out dest_bits link_flit link_channel v s shared
+
+-- The largest sizes are enough for every plan.
+abbrev pub SizesFit : Type 0
+SizesFit = (p : Plan) → IsSound p → GlueFits p largest_size 5 8 42 3

@@ -12,4 +12,5 @@ pub mod Fits
 pub mod Glue
 pub mod Whole
 pub mod Outs
+pub mod Sizes
 pub mod Laws

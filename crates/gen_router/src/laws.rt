@@ -1,5 +1,5 @@
 //! Laws over the definitions.
-ghost use Rattle.gen_router.specs.Laws.{AllocKept, SlotKept, SlotShown, LeavingOwner, ArrivingOwner, BufferKept, ArrivalPushes, ReadyShown, TurnsKept, ChoicesKept, OnShown, FreedShown, LinkKept, IdleKept, CreditKept, RotateNetsFit, ClassNetsFit, OwnDrivers, InOrderTogether, LeavesShown, LeafKept, LeafRun, GroupsMove, GroupsRun, TextRun, OutsShown};
+ghost use Rattle.gen_router.specs.Laws.{AllocKept, SlotKept, SlotShown, LeavingOwner, ArrivingOwner, BufferKept, ArrivalPushes, ReadyShown, TurnsKept, ChoicesKept, OnShown, FreedShown, LinkKept, IdleKept, CreditKept, RotateNetsFit, ClassNetsFit, OwnDrivers, InOrderTogether, LeavesShown, LeafKept, LeafRun, GroupsMove, GroupsRun, TextRun, OutsShown, SizesFit};
 
 /// An edge keeps who waits for an output, who holds which channel, and the pointer, as a step has them.
 pub fn alloc_kept()
@@ -129,4 +129,9 @@ pub fn text_run()
 /// The output ports of a leaf that is tied to its tile show what the tile parts give out.
 pub fn outs_shown()
     ensures { OutsShown }
+{}
+
+/// The largest sizes are enough for every plan.
+pub fn sizes_fit()
+    ensures { SizesFit }
 {}
