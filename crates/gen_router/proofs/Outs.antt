@@ -1,5 +1,5 @@
 -- The output ports of a leaf show what its tile parts give out.
-use Rattle.std.proofs.Common.{◌≡◌, ℕ, ◌+◌, ◌-◌, ◌*◌, ◌/◌, ◌%◌, ◌<◌, ◌≤◌, ◌^◌, Bool, true, false, length, Option, refl, ◌∙◌, ap, arith}
+use Rattle.std.proofs.Common.{◌≡◌, ℕ, ◌+◌, ◌-◌, ◌*◌, ◌/◌, ◌%◌, ◌<◌, ◌≤◌, ◌^◌, Bool, true, false, length, Option, refl, ◌∙◌, ap, arith, ◌==◌}
 use Rattle.std.specs.Prelude.{Some, None}
 use Rattle.std.proofs.Math.Nat.{mod-eq_of_lt, mul-add-mod_self_right, div-one, zero-div}
 use Rattle.std.proofs.lemmas.Nat.Bits.{bit_at_cat_high}
@@ -7,15 +7,20 @@ use Rattle.vl_model.specs.Meaning.{Widths, Values, one_if}
 use Rattle.gen_kit.specs.Groups.{HoldsIn}
 use Rattle.noc_model.specs.declared.Flit.{Flit}
 use Rattle.noc_model.specs.declared.LinkFlit.{LinkFlit}
-use Rattle.noc_model.specs.Plan.{Plan, hosts}
+use Rattle.noc_model.specs.Plan.{Plan, hosts, link_channels}
 use Rattle.noc_model.specs.Sound.{IsSound}
 use Rattle.noc_model.specs.Tile.{Tile}
 use Rattle.gen_router.specs.Buffers.{BufferSize}
 use Rattle.gen_router.specs.Tie.{LeafNames, HasLink, LeafTie, ejected_code, word_code}
 use Rattle.gen_router.specs.Glue.{NetNames, attach_names, attach_size}
-use Rattle.gen_router.specs.Outs.{OutNames, EjectedShown, LeafOut, link_out_group, local_out_group}
+use Rattle.gen_router.specs.Outs.{OutNames, EjectedShown, LeafOut, credit_out_group, link_out_group, local_out_group}
 use Rattle.gen_router.proofs.Attached.{open-shown}
 use Rattle.gen_router.proofs.Buffered.{length-map}
+use Rattle.gen_router.proofs.Placed.{bit-is, bit-one, one-bit}
+use Rattle.gen_kit.specs.Masks.{mask}
+use Rattle.gen_kit.proofs.Sets.{mask-bit}
+use Rattle.gen_kit.proofs.Families.{rows-shown}
+use Rattle.vl_tree.specs.Values.{Name, bit}
 
 -- the bits of an ejection place
 pub record IsEjected (f : Flit) : Type 0 where
@@ -84,3 +89,32 @@ outs-shown p n names nets out size dest_bits link_flit link_channel w v t s shar
           (locals d below h).nets.1.1.0 ∙ ap (λ k. k / 2 ^ 32 % 2) place ∙ bits.tail,
           (locals d below h).nets.1.1.1.0 ∙ ap (λ k. k / 2 ^ 0 % 2 ^ (31 - 0 + 1)) place ∙ bits.payload,
         )
+
+-- each bit of a bundle is the pulse of its domain and channel
+pub credits-shown : (p : Plan) (n : ℕ) (names : LeafNames) (size : BufferSize) (dest_bits link_flit link_channel : ℕ) (bundle : Name) (port first count : ℕ) (domain channel : ℕ → ℕ)
+    (w : Widths) (v : Values) (t : ℕ) (s : ℕ → Tile) (shared : ℕ → ℕ → Option LinkFlit) → HoldsIn (credit_out_group names bundle port first count domain channel) w v
+    → LeafTie p n names size dest_bits link_flit link_channel v t s shared → HasLink p n port
+    → (r : ℕ) → first ≤ r → r < first + count → domain r < length p.domains → channel r < link_channels p (domain r)
+    → v.net bundle / 2 ^ (r - first) % 2 ≡ one_if ((s (domain r)).pulse port (channel r))
+credits-shown p n names size dest_bits link_flit link_channel bundle port first count domain channel w v t s shared hold tie link r from below there few =
+    ap (λ m. m / 2 ^ (r - first) % 2) bits ∙ mask-bit count (r - first) shown inside
+    ∙ ap (λ k. one_if (v.net (names.pulse (domain k) port) / 2 ^ channel k % 2 == 1)) at
+    ∙ ap (λ m. one_if (m / 2 ^ channel r % 2 == 1)) ((tie.domains (domain r) there).pulses port link)
+    ∙ ap (λ m. one_if (m == 1)) (mask-bit (link_channels p (domain r)) (channel r) ((s (domain r)).pulse port) few)
+    ∙ ap one_if (bit-one ((s (domain r)).pulse port (channel r)))
+  where
+    shown : ℕ → Bool
+    shown k = v.net (names.pulse (domain (first + k)) port) / 2 ^ channel (first + k) % 2 == 1
+
+    inside : r - first < count
+    inside = omega (arith, from, below)
+
+    at : first + (r - first) ≡ r
+    at = omega (arith, from)
+
+    bits : v.net bundle ≡ mask count shown
+    bits =
+        hold.nets.0
+        ∙ rows-shown 1 w v (λ k. bit (names.pulse (domain (first + k)) port) (channel (first + k))) shown (count - 1) (λ k le. refl)
+        (λ k le. bit-is (v.net (names.pulse (domain (first + k)) port) / 2 ^ channel (first + k)) ∙ one-bit shown k)
+        ∙ (let width : (count - 1 + 1) * 1 ≡ count = omega (arith, inside) in ap (λ m. mask m shown) width)
