@@ -1,4 +1,4 @@
--- All groups of a leaf, in the order of their nets: each reads registers, ports and nets of groups that stand before it.
+-- All groups of a leaf, in the order of their nets: each reads registers, ports, heads, and nets of groups before it.
 use Rattle.std.specs.Prelude.{◌≡◌, ℕ, zero, suc, ◌+◌, ◌-◌, Bool, true, false, List, [], ◌∷◌, ◌++◌, length, Option, Some, None, is_some, if◌then◌else◌, ◌==◌, ◌||◌}
 use Rattle.vl_tree.specs.Values.{net, bit}
 use Rattle.vl_model.specs.Meaning.{Widths}
@@ -79,9 +79,9 @@ sent_groups p n d names nets q base size dest_bits link_flit link_channel = each
 
 -- the buffers that are filled from links
 abbrev pub link_buffers : Plan → ℕ → ℕ → LeafNames → NetNames → PortNames → BufferSize → ℕ → ℕ → List Group
-link_buffers p n d names nets q size link_flit link_channel = each_group (ports p) (λ port. to_neighbour (λ m. each_group
-    (link_channels p d) (λ c. buffer_group (names.buffer d port c) size (link_push p names q link_flit link_channel
-    d port m c) (pop_of p nets d port c) ∷ [])) (neighbour p n port))
+link_buffers p n d names nets q size link_flit link_channel = each_group (ports p) (λ port. to_neighbour (λ m.
+    each_group (link_channels p d) (λ c. buffer_group (names.buffer d port c) size (link_push p names q link_flit
+    link_channel d port m c) (pop_of p nets d port c) ∷ [])) (neighbour p n port))
 
 -- what a domain has where the tile hosts it: the attachment with its buffers, and the ejection place
 abbrev pub local_groups : Plan → ℕ → ℕ → LeafNames → NetNames → PortNames → BufferSize → ℕ → List Group
