@@ -17,7 +17,7 @@ use Rattle.noc_model.proofs.Switch.{leaves-front}
 use Rattle.gen_kit.specs.Groups.{GroupKeeps}
 use Rattle.gen_router.specs.Buffers.{BufferSize, buffer_group, BufferTie, is_filled, BufferIn, arrival_push, Arrives}
 
-length-map : (code : Flit → ℕ) (q : List Flit) → length (map code q) ≡ length q
+pub length-map : (code : Flit → ℕ) (q : List Flit) → length (map code q) ≡ length q
 length-map code [] = refl
 length-map code (f ∷ fs) = ap suc (length-map code fs)
 

@@ -11,8 +11,15 @@ pub mod Fitting
 pub mod Counted
 pub mod Steps
 pub mod Sized
+pub mod Placed
+pub mod Looked
+pub mod Attached
+pub mod Outs
+pub mod Enough
 pub mod Glued
 pub mod Homes
 pub mod Whole
 pub mod Started
 pub mod Leaves
+pub mod Members
+pub mod Grouped

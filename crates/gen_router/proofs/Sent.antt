@@ -14,7 +14,7 @@ use Rattle.noc_model.specs.Plan.{Plan, link_channels, ports, in_channels}
 use Rattle.noc_model.specs.Tile.{Tile, TileIn}
 use Rattle.noc_model.specs.Step.{asked, asks_for, chosen, granted_to, grant, is_channel, leaves, front, with_channel, sent, is_on, is_tail_on, is_tail}
 use Rattle.noc_model.proofs.Least.{pick-member}
-use Rattle.noc_model.proofs.Switch.{then-is, grant-ready, sent-by, leaves-front}
+use Rattle.noc_model.proofs.Switch.{then-is, grant-ready, sent-by, leaves-front, asks_for-out}
 use Rattle.gen_kit.specs.Masks.{mask}
 use Rattle.gen_router.specs.Places.{stage_at, queue_at, is_active, leaves_at, ends_at}
 use Rattle.gen_kit.proofs.Sets.{mask-none, mask-some}
@@ -54,7 +54,7 @@ left p d n t s i port c e = go (grant p d n t s i port) refl e
         }
 
 -- what leaves a place that is active on the output is what is sent
-sent-is : (p : Plan) (d n : ℕ) (t : ℤ) (s : Tile) (i : TileIn) (o w port c : ℕ) → leaves p d n t s i port c ≡ true → s.stage port c ≡ Active o w
+pub sent-is : (p : Plan) (d n : ℕ) (t : ℤ) (s : Tile) (i : TileIn) (o w port c : ℕ) → leaves p d n t s i port c ≡ true → s.stage port c ≡ Active o w
     → (sent p d n t s i o ≡ with_channel w (front (s.queue port c))) × (port < ports p) × (c < in_channels p d port)
 unfolding sent chosen
 sent-is p d n t s i o w port c e st =
@@ -71,14 +71,14 @@ sent-is p d n t s i o w port c e st =
     )
 
 -- what is sent leaves such a place
-record SentFrom (p : Plan) (d n : ℕ) (t : ℤ) (s : Tile) (i : TileIn) (o : ℕ) (x : LinkFlit) : Type 0 where
-  port : ℕ
-  c : ℕ
-  gone : leaves p d n t s i port c ≡ true
-  active : s.stage port c ≡ Active o x.channel
-  flit : front (s.queue port c) ≡ Some x.flit
+pub record SentFrom (p : Plan) (d n : ℕ) (t : ℤ) (s : Tile) (i : TileIn) (o : ℕ) (x : LinkFlit) : Type 0 where
+  pub port : ℕ
+  pub c : ℕ
+  pub gone : leaves p d n t s i port c ≡ true
+  pub active : s.stage port c ≡ Active o x.channel
+  pub flit : front (s.queue port c) ≡ Some x.flit
 
-sent-from : (p : Plan) (d n : ℕ) (t : ℤ) (s : Tile) (i : TileIn) (o : ℕ) (x : LinkFlit) → sent p d n t s i o ≡ Some x → SentFrom p d n t s i o x
+pub sent-from : (p : Plan) (d n : ℕ) (t : ℤ) (s : Tile) (i : TileIn) (o : ℕ) (x : LinkFlit) → sent p d n t s i o ≡ Some x → SentFrom p d n t s i o x
 unfolding leaves
 sent-from p d n t s i o x e =
     let by = sent-by p d n t s i o x e in
@@ -205,3 +205,53 @@ freed-shown p d n o w t s i few = nonzero-is (ports p * link_channels p d) (λ p
         there : (f : Option Flit) → is_tail f ≡ true → is_tail_on (with_channel w f) w ≡ true
         there None e = absurd (cc e)
         there (Some f) e = rw (e, self w) refl
+
+-- what an output sends from the port that it chose
+pub record SendsFrom (p : Plan) (d n : ℕ) (t : ℤ) (s : Tile) (i : TileIn) (o port : ℕ) : Type 0 where
+  pub c : ℕ
+  pub to : ℕ
+  pub flit : Flit
+  pub gone : leaves p d n t s i port c ≡ true
+  pub active : s.stage port c ≡ Active o to
+  pub is_front : front (s.queue port c) ≡ Some flit
+  pub sends : sent p d n t s i o ≡ Some (record { channel = to; flit = flit })
+
+chosen-asks : (p : Plan) (d n : ℕ) (t : ℤ) (s : Tile) (i : TileIn) (o port : ℕ) → chosen p d n t s i o ≡ Some port → asks_for (asked p d n t s i port) o ≡ true
+unfolding chosen
+chosen-asks p d n t s i o port e = (pick-member (ports p) (λ m. asks_for (asked p d n t s i m) o) (s.switch o) port e).1
+
+chosen-granted : (p : Plan) (d n : ℕ) (t : ℤ) (s : Tile) (i : TileIn) (o port : ℕ) (g : Grant) → asked p d n t s i port ≡ Some g → g.out ≡ o → chosen p d n t s i o ≡ Some port → grant p d n t s i port ≡ Some g
+unfolding grant
+chosen-granted p d n t s i o port g asks out e =
+    let self : (port == port) ≡ true = grind (arith, nat_tests) in
+    ap (λ x. option_and_then (λ (h : Grant). granted_to (chosen p d n t s i h.out) port h) x) asks
+    ∙ ap (λ k. granted_to (chosen p d n t s i k) port g) out ∙ ap (λ x. granted_to x port g) e
+    ∙ ap (λ b. if b then Some g else None) self
+
+by-grant : (p : Plan) (d n : ℕ) (t : ℤ) (s : Tile) (i : TileIn) (port : ℕ) (g : Grant) → grant p d n t s i port ≡ Some g → leaves p d n t s i port g.channel ≡ true
+unfolding leaves
+by-grant p d n t s i port g e =
+    let self : (g.channel == g.channel) ≡ true = grind (arith, nat_tests) in
+    ap (λ x. is_channel x g.channel) e ∙ self
+
+pub chosen-sends : (p : Plan) (d n : ℕ) (t : ℤ) (s : Tile) (i : TileIn) (o port : ℕ) → chosen p d n t s i o ≡ Some port → SendsFrom p d n t s i o port
+chosen-sends p d n t s i o port e =
+    let asks = asks_for-out (asked p d n t s i port) o (chosen-asks p d n t s i o port e) in
+    let g : Grant = asks.0 in
+    let granted = chosen-granted p d n t s i o port g asks.1 asks.2 e in
+    let gone = by-grant p d n t s i port g granted in
+    let ready = grant-ready p d n t s i port g granted in
+    let active : s.stage port g.channel ≡ Active o g.to = ready.active ∙ ap (λ k. Active k g.to) asks.2 in
+    record {
+      c = g.channel;
+      to = g.to;
+      flit = ready.flit;
+      gone = gone;
+      active = active;
+      is_front = ready.is_front;
+      sends = (sent-is p d n t s i o g.to port g.channel gone active).0 ∙ ap (with_channel g.to) ready.is_front;
+    }
+
+pub none-sent : (p : Plan) (d n : ℕ) (t : ℤ) (s : Tile) (i : TileIn) (o : ℕ) → chosen p d n t s i o ≡ None → sent p d n t s i o ≡ None
+unfolding sent
+none-sent p d n t s i o e = ap (λ x. option_and_then (λ m. option_and_then (λ (g : Grant). with_channel g.to (front (s.queue m g.channel))) (grant p d n t s i m)) x) e

@@ -24,7 +24,7 @@ use Rattle.gen_kit.specs.Families.{for_each}
 use Rattle.gen_router.specs.Alloc.{AllocTie, AllocNames, AllocSize, alloc_group, active_moves, active_move, out_count}
 use Rattle.gen_router.specs.Buffers.{BufferSize}
 use Rattle.gen_router.specs.Slots.{leaving_slot, arriving_slot}
-use Rattle.gen_router.specs.Tie.{LeafNames, PortNames, HasLink, alloc_size, DomainTie, LeafTie}
+use Rattle.gen_router.specs.Tie.{LeafNames, PortNames, HasLink, alloc_size, DomainTie, LeafTie, IsWord}
 use Rattle.gen_router.specs.Glue.{NetNames, switch_names, high, DomainStarts, LeafStarts, rows_at, state_at}
 use Rattle.gen_kit.proofs.Sets.{mask-same, mask-none, mask-from}
 use Rattle.gen_kit.proofs.Families.{each-held}
@@ -65,7 +65,7 @@ alloc-starts p d n o a z v e = record {
   pointer = rotate-starts a.choice z.high v (held-front (Reset v) (rotate_group a.choice z.high).moves (active_moves a z) e.1.1);
 }
 
-slot-below : (p : Plan) (n : ℕ) (t : ℤ) (way : Way) → 1 ≤ length p.slots → slot_of p n t way < length p.slots
+pub slot-below : (p : Plan) (n : ℕ) (t : ℤ) (way : Way) → 1 ≤ length p.slots → slot_of p n t way < length p.slots
 slot-below p n t Local some = omega arith
 slot-below p n t (Plus i) some = modulo-below (length p.slots) _ some
 slot-below p n t (Minus i) some = modulo-below (length p.slots) _ some
@@ -78,7 +78,7 @@ nothing-own true = refl
 nothing-own false = refl
 
 domain-starts : (p : Plan) (n d : ℕ) (names : LeafNames) (nets : NetNames) (q : PortNames) (base : ℕ → ℕ) (size : BufferSize) (dest_bits : ℕ) (v : Values) → IsSound p → d < length p.domains
-    → DomainStarts p n d names nets q base size v → DomainTie p n d names size dest_bits v (pos 0) (start_tile p)
+    → DomainStarts p n d names nets q base size dest_bits v → DomainTie p n d names size dest_bits v (pos 0) (start_tile p)
 domain-starts p n d names nets q base size dest_bits v sound there e = record {
   idle = e.idle.0 ∙ whole (high p d + 1) ∙ ap (λ m. mask m (λ k. true)) (high-is p d some);
   outputs = λ o port. alloc-starts p d n o (names.alloc d o) (alloc_size p d o) v (e.alloc o port);
@@ -91,14 +91,16 @@ domain-starts p n d names nets q base size dest_bits v sound there e = record {
   pulses = λ port link. (e.pulses port link).0 ∙ empty (link_channels p d);
   buffers = λ port c place. (let r = e.buffers port c place in
       (0, record { read = r.1.1.1.1.1.1.1.1.0 ∙ sym (zero-mod (2 ^ (size.bh + 1))); write = r.1.1.1.1.1.1.1.1.1.0 ∙ sym (zero-mod (2 ^ (size.bh + 1))); count = r.1.1.1.1.1.1.1.1.1.1.0; words = tt }));
-  packet = e.packet;
-  current = e.current;
-  dropped = e.dropped;
-  ejected = e.ejected;
+  packet = λ h. ((e.attach h).0, (e.attach h).1.0);
+  current = λ h. (e.attach h).1.1.1.0;
+  dropped = λ h. (e.attach h).1.1.1.1.0;
+  ejected = λ h. (e.ejected h).0;
   absent = λ port c none. (refl, refl);
   sound = start-sound p d n (pos 0) some;
   within = λ o x link. omega arith;
   short = λ port c. omega arith;
+  words = λ port c. All-nil IsWord;
+  held = λ f x. absurd (cc x);
   home = λ off port c. (refl, refl);
 }
   where
@@ -106,12 +108,13 @@ domain-starts p n d names nets q base size dest_bits v sound there e = record {
     some = some-channels p d sound there
 
 pub leaf-starts : (p : Plan) (n : ℕ) (names : LeafNames) (nets : NetNames) (q : PortNames) (base : ℕ → ℕ) (size : BufferSize) (slot_high dest_bits link_flit link_channel : ℕ) (v : Values) (i : ℕ → ℕ → TileIn) → IsSound p
-    → LeafStarts p n names nets q base size slot_high link_flit link_channel v → LeafTie p n names size dest_bits link_flit link_channel v 0 (state_at p n i 0) (rows_at p n i 0)
+    → LeafStarts p n names nets q base size slot_high dest_bits link_flit link_channel v → LeafTie p n names size dest_bits link_flit link_channel v 0 (state_at p n i 0) (rows_at p n i 0)
 unfolding nothing
 leaf-starts p n names nets q base size slot_high dest_bits link_flit link_channel v i sound e = record {
   leaving = λ o link. slot-starts (names.slot (leaving_slot p n o)) slot_high p.slots (length p.domains) (leaving_slot p n o) (slot-below p n (pos 0) (way_of o) some) v (e.leaving o link);
   arriving = λ port m is. slot-starts (names.slot (arriving_slot p m (opposite port))) slot_high p.slots (length p.domains) (arriving_slot p m (opposite port)) (slot-below p m (pos 0 -ℤ pos p.stages) (way_of (opposite port)) some) v (e.arriving port m is);
   rows = λ o j link below. row o link j (omega (arith, below, last));
+  payloads = λ o j x link e. absurd (cc e);
   own = λ d o j link. nothing-own (owner p n o (filled_in (pos 0) j) == d);
   domains = λ d there. domain-starts p n d names nets q base size dest_bits v sound there (e.domains d there);
 }

@@ -1,8 +1,8 @@
 -- What a tile's step keeps, from what the inputs must be: absent places, bounds, and that no packet goes home where none is.
-use Rattle.std.proofs.Common.{◌≡◌, ℕ, zero, suc, ◌+◌, ◌-◌, ◌*◌, ◌<◌, ◌≤◌, Bool, true, false, List, [], ◌∷◌, ◌++◌, length, drop, Option, refl, ◌∙◌, ap, arith, subst, ◌==◌, ◌&&◌, ℤ, length-append, length-drop}
+use Rattle.std.proofs.Common.{◌≡◌, ℕ, zero, suc, ◌+◌, ◌-◌, ◌*◌, ◌<◌, ◌≤◌, ◌^◌, Bool, true, false, List, [], ◌∷◌, ◌++◌, length, drop, Option, refl, ◌∙◌, ap, arith, subst, ◌==◌, ◌&&◌, ℤ, length-append, length-drop}
 use Rattle.std.specs.Prelude.{Some, None, nat_lt, if◌then◌else◌, option_to_list, All}
 use Rattle.std.proofs.lemmas.Bool.Decides.{nat_tests}
-use Rattle.std.proofs.lemmas.List.Elements.{All-head}
+use Rattle.std.proofs.lemmas.List.Elements.{All-head, All-nil, All-cons, All-append, All-drop}
 use Rattle.noc_model.specs.declared.Flit.{Flit}
 use Rattle.noc_model.specs.declared.LinkFlit.{LinkFlit}
 use Rattle.noc_model.specs.declared.Offer.{Offer}
@@ -14,11 +14,11 @@ use Rattle.noc_model.specs.Plan.{Plan, channels, link_channels, hosts}
 use Rattle.noc_model.specs.Place.{route}
 use Rattle.noc_model.specs.Tile.{Tile, TileIn}
 use Rattle.noc_model.specs.SoundState.{GoesHome, IsSoundTile}
-use Rattle.noc_model.specs.Step.{routed, waits_for, winner, is_place, taken_channel, activated, leaves, is_tail, front, next_stage, comes_in, flit_on, entry, word_in, is_open, is_ready_packet, sent, is_on, one_if as number_of, tile_step}
+use Rattle.noc_model.specs.Step.{routed, waits_for, winner, is_place, taken_channel, activated, leaves, is_tail, front, next_stage, comes_in, flit_on, entry, word_in, is_open, is_ready_packet, entry_of, goes_to, sent, is_on, one_if as number_of, tile_step}
 use Rattle.noc_model.proofs.TileKept.{IsSoundIn}
 use Rattle.gen_router.specs.Switch.{goes_by}
 use Rattle.gen_router.specs.Buffers.{is_filled}
-use Rattle.gen_router.specs.Tie.{HasLink, HasPlace}
+use Rattle.gen_router.specs.Tie.{HasLink, HasPlace, IsWord}
 
 -- what one domain's part of the inputs must be
 pub record MayCome (p : Plan) (n d : ℕ) (s : Tile) (i : TileIn) : Type 0 where
@@ -149,6 +149,56 @@ comes-room p n d s i (suc port) c may e = go (i.arrives (suc port)) refl e
         inner true at g =
             let same : x.channel ≡ c = grind (arith, nat_tests, at) in
             subst (λ j. length (s.queue (suc port) j) < p.buffer) same (may.linked (suc port) x is).2
+
+-- ---- words
+
+entry-word : (p : Plan) (d : ℕ) (k : Packet) (y : Option Offer) (f : Flit) → ((x : Offer) → y ≡ Some x → x.payload < 2 ^ 32) → entry p d k y ≡ Some f → IsWord f
+entry-word p d k None f words e = absurd (cc e)
+entry-word p d k (Some x) f words e = go (goes_to p d k x) e
+  where
+    go : (o : Option ℕ) → entry_of k x o ≡ Some f → IsWord f
+    go None g = absurd (cc g)
+    go (Some dest) g = let same : x.payload ≡ f.payload = ap (λ o. payload_of o) g in subst (λ m. m < 2 ^ 32) same (words x refl)
+      where
+        payload_of : Option Flit → ℕ
+        payload_of None = 0
+        payload_of (Some h) = h.payload
+
+taken-word : (p : Plan) (s : Tile) (i : TileIn) (x : Offer) → word_in p s i ≡ Some x → i.offer ≡ Some x
+unfolding word_in
+taken-word p s i x e = go (is_open p s) e
+  where
+    go : (b : Bool) → (if b then i.offer else None) ≡ Some x → i.offer ≡ Some x
+    go true f = f
+    go false f = absurd (cc f)
+
+one-word : (f : Flit) → IsWord f → All IsWord (f ∷ [])
+one-word f h = All-cons IsWord f [] h (All-nil IsWord)
+
+comes-words : (p : Plan) (d : ℕ) (s : Tile) (i : TileIn) (port c : ℕ) → ((k : ℕ) (x : LinkFlit) → i.arrives k ≡ Some x → IsWord x.flit) → ((x : Offer) → i.offer ≡ Some x → x.payload < 2 ^ 32)
+    → All IsWord (comes_in p d s i port c)
+comes-words p d s i zero c arrive offer = go (s.current == c) (entry p d s.packet (word_in p s i)) refl
+  where
+    go : (b : Bool) (o : Option Flit) → entry p d s.packet (word_in p s i) ≡ o → All IsWord (if b then option_to_list o else [])
+    go false o e = All-nil IsWord
+    go true None e = All-nil IsWord
+    go true (Some f) e = one-word f (entry-word p d s.packet (word_in p s i) f (λ x is. offer x (taken-word p s i x is)) e)
+comes-words p d s i (suc port) c arrive offer = go (i.arrives (suc port)) refl
+  where
+    go : (x : Option LinkFlit) → i.arrives (suc port) ≡ x → All IsWord (flit_on x c)
+    go None is = All-nil IsWord
+    go (Some x) is = inner (x.channel == c)
+      where
+        inner : (b : Bool) → All IsWord (if b then x.flit ∷ [] else [])
+        inner true = one-word x.flit (arrive (suc port) x is)
+        inner false = All-nil IsWord
+
+pub words-kept : (p : Plan) (n d : ℕ) (t : ℤ) (s : Tile) (i : TileIn) (port c : ℕ) → ((k : ℕ) (x : LinkFlit) → i.arrives k ≡ Some x → IsWord x.flit) → ((x : Offer) → i.offer ≡ Some x → x.payload < 2 ^ 32)
+    → All IsWord (s.queue port c) → All IsWord ((tile_step p d n t s i).queue port c)
+unfolding tile_step
+words-kept p n d t s i port c arrive offer was =
+    All-append IsWord (drop (number_of (leaves p d n t s i port c)) (s.queue port c)) (comes_in p d s i port c)
+    (All-drop IsWord (number_of (leaves p d n t s i port c)) (s.queue port c) was) (comes-words p d s i port c arrive offer)
 
 -- ---- home
 

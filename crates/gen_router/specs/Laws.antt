@@ -4,9 +4,12 @@ use Rattle.gen_router.specs.Alloc.{AllocIn, AllocNames, AllocSize, AllocTie, Fit
 use Rattle.gen_router.specs.Buffers.{Arrives, BufferIn, BufferSize, BufferTie, arrival_push, buffer_group, is_filled}
 use Rattle.gen_router.specs.Counts.{CreditIn, IdleIn, credit_group, idle_group}
 use Rattle.gen_router.specs.Fits.{AllDeclare, AllFit}
-use Rattle.gen_router.specs.Glue.{GlueFits, LeafBorrowed, LeafRuns, LeafStarts, Moves, NetNames, at_or, next_shared, rows_at, state_at}
-use Rattle.gen_kit.specs.Groups.{Group, GroupGives, GroupKeeps, all_items}
-use Rattle.vl_model.specs.Parts.{AllHold, AllStep}
+use Rattle.gen_router.specs.Glue.{GlueFits, LeafRuns, LeafStarts, Moves, NetNames, at_or, next_shared, rows_at, state_at}
+use Rattle.gen_kit.specs.Groups.{Group, GroupGives, GroupKeeps, HoldsIn, all_items}
+use Rattle.gen_router.specs.Outs.{LeafOut, OutNames, credit_out_group, link_out_group, local_out_group}
+use Rattle.gen_router.specs.Sizes.{largest_size}
+use Rattle.gen_router.specs.Whole.{Joined, leaf_groups}
+use Rattle.vl_model.specs.Parts.{AllHold, AllStep, Runs}
 use Rattle.gen_router.specs.Links.{LinkIn, LinkNames, LinkTie, link_group}
 use Rattle.gen_kit.specs.Masks.{mask}
 use Rattle.gen_router.specs.Places.{ends_at, is_active, is_idle, leaves_at, stage_at}
@@ -15,22 +18,23 @@ use Rattle.gen_kit.specs.Rotate.{PointsTo, RotateNames, rotate_group}
 use Rattle.gen_router.specs.Slots.{Counts, Owns, SlotNames, arriving_slot, leaving_slot, slot_group}
 use Rattle.gen_router.specs.Switch.{ReadyIn, SwitchIn, SwitchNames, SwitchSize, place_count, ready_expr, ready_for, switch_group}
 use Rattle.gen_router.specs.Tags.{DrivesOwn, GroupsInOrder}
-use Rattle.gen_router.specs.Tie.{LeafIn, LeafNames, LeafTie, PortNames}
+use Rattle.gen_router.specs.Tie.{HasLink, LeafIn, LeafNames, LeafTie, PortNames}
 use Rattle.noc_model.specs.Sound.{IsSound}
 use Rattle.noc_model.specs.Place.{owner, way_of}
 use Rattle.noc_model.specs.declared.ways.Way.TheVariants.{Local}
-use Rattle.noc_model.specs.Plan.{Plan, in_channels, link_channels, ports, tiles}
+use Rattle.noc_model.specs.Plan.{Plan, hosts, in_channels, link_channels, ports, tiles}
 use Rattle.noc_model.specs.Step.{flit_on, is_on, is_tail_on, sent, shifted, tile_step}
 use Rattle.noc_model.specs.Tile.{Tile, TileIn}
 use Rattle.noc_model.specs.declared.Flit.{Flit}
 use Rattle.noc_model.specs.declared.LinkFlit.{LinkFlit}
 use Rattle.std.specs.List.{AllByRecursion}
-use Rattle.std.specs.Prelude.{Bool, List, Option, [], length, map, pos, slice_index, suc, ℕ, ℤ, ◌%◌, ◌&&◌, ◌*◌, ◌+◌, ◌-ℤ◌, ◌-◌, ◌<◌, ◌==◌, ◌^◌, ◌≡◌, ◌≢◌, ◌≤◌}
-use Rattle.vl_model.specs.Lines.{item}
+use Rattle.std.specs.Prelude.{Bool, List, Option, Some, [], length, map, pos, slice_index, suc, true, ℕ, ℤ, ◌%◌, ◌&&◌, ◌*◌, ◌+◌, ◌++◌, ◌-ℤ◌, ◌-◌, ◌<◌, ◌==◌, ◌^◌, ◌≡◌, ◌≢◌, ◌≤◌, ◌/◌}
+use Rattle.vl_model.specs.Leaf.{IsLeafRun, leaf_widths}
+use Rattle.vl_model.specs.Lines.{item, leaf_named}
 use Rattle.vl_model.specs.Meaning.{Values, Widths, one_if, value_of}
 use Rattle.vl_model.specs.Order.{InOrder}
-use Rattle.vl_model.specs.Rules.{drivers}
-use Rattle.vl_tree.specs.Values.{Expr, Item, Name}
+use Rattle.vl_model.specs.Rules.{drivers, IsSound as IsSoundDesign}
+use Rattle.vl_tree.specs.Values.{Design, Expr, Item, Leaf, Name}
 
 -- An edge keeps who waits for an output, who holds which channel, and the pointer, as a step has them.
 abbrev pub AllocKept : Type 0
@@ -158,11 +162,10 @@ LeavesShown = (p : Plan) (d n : ℕ) (a : SwitchNames) (z : SwitchSize)
 -- An edge keeps the tie of a leaf to the tile parts of all domains.
 abbrev pub LeafKept : Type 0
 LeafKept = (p : Plan) (n : ℕ) (names : LeafNames) (nets : NetNames) (q : PortNames) (base : ℕ
-    → ℕ) (size : BufferSize) (slot_high dest_bits link_flit link_channel : ℕ) (enters : ℕ → ℕ → Expr)
+    → ℕ) (size : BufferSize) (slot_high dest_bits link_flit link_channel : ℕ)
     (w : Widths) (v u : Values) (t : ℕ) (s : ℕ → Tile) (i : ℕ → TileIn) (shared : ℕ → ℕ → Option LinkFlit)
-    → IsSound p → n < tiles p → GlueFits p size slot_high link_channel
-    → LeafRuns p n names nets q base size slot_high link_flit link_channel enters w v u
-    → LeafBorrowed p n names nets dest_bits link_flit link_channel enters w v u t s i
+    → IsSound p → n < tiles p → GlueFits p size slot_high dest_bits link_flit link_channel
+    → LeafRuns p n names nets q base size slot_high dest_bits link_flit link_channel w v u
     → LeafIn p n q base dest_bits link_flit link_channel v t s i
     → LeafTie p n names size dest_bits link_flit link_channel v t s shared
     → LeafTie p n names size dest_bits link_flit link_channel u (suc t) (λ d. tile_step p d n (pos t) (s d) (i d))
@@ -171,14 +174,12 @@ LeafKept = (p : Plan) (n : ℕ) (names : LeafNames) (nets : NetNames) (q : PortN
 -- From reset on the tie stands in every cycle, with any first content of memories.
 abbrev pub LeafRun : Type 0
 LeafRun = (p : Plan) (n : ℕ) (names : LeafNames) (nets : NetNames) (q : PortNames) (base : ℕ
-    → ℕ) (size : BufferSize) (slot_high dest_bits link_flit link_channel : ℕ) (enters : ℕ → ℕ → Expr)
+    → ℕ) (size : BufferSize) (slot_high dest_bits link_flit link_channel : ℕ)
     (w : Widths) (v : ℕ → Values) (i : ℕ → ℕ → TileIn) → IsSound p → n < tiles p
-    → GlueFits p size slot_high link_channel
-    → ((t : ℕ) → LeafRuns p n names nets q base size slot_high link_flit link_channel enters w (v t) (v (suc t)))
-    → ((t : ℕ) → LeafBorrowed p n names nets dest_bits link_flit link_channel enters w (v t) (v (suc t)) t
-    (state_at p n i t) (i t))
+    → GlueFits p size slot_high dest_bits link_flit link_channel
+    → ((t : ℕ) → LeafRuns p n names nets q base size slot_high dest_bits link_flit link_channel w (v t) (v (suc t)))
     → ((t : ℕ) → LeafIn p n q base dest_bits link_flit link_channel (v t) t (state_at p n i t) (i t))
-    → LeafStarts p n names nets q base size slot_high link_flit link_channel (v 0)
+    → LeafStarts p n names nets q base size slot_high dest_bits link_flit link_channel (v 0)
     → (t : ℕ) → LeafTie p n names size dest_bits link_flit link_channel (v t) t (state_at p n i t) (rows_at p n i t)
 
 -- Where a leaf's items are those of some groups, each of the groups moves over an edge.
@@ -186,3 +187,51 @@ abbrev pub GroupsMove : Type 0
 GroupsMove = (gs : List Group) (w : Widths) (v u : Values) → AllHold w v (all_items gs)
     → AllHold w u (all_items gs) → AllStep w v u (all_items gs) → (k : ℕ) (g : Group) → k < length gs
     → Moves (at_or gs k g) w v u
+
+-- A leaf whose items are those of all groups, and of others, holds the tile parts of all domains in every cycle.
+abbrev pub GroupsRun : Type 0
+GroupsRun = (p : Plan) (n : ℕ) (names : LeafNames) (nets : NetNames) (q : PortNames) (base : ℕ
+    → ℕ) (size : BufferSize) (slot_high dest_bits link_flit link_channel : ℕ) (others : List Group)
+    (w : Widths) (v : ℕ → Values) (i : ℕ → ℕ → TileIn) → IsSound p → n < tiles p
+    → GlueFits p size slot_high dest_bits link_flit link_channel → Joined p n names nets q w
+    → Runs (all_items (leaf_groups p n names nets q base size slot_high dest_bits link_flit link_channel
+    ++ others)) w v
+    → ((t : ℕ) → LeafIn p n q base dest_bits link_flit link_channel (v t) t (state_at p n i t) (i t))
+    → (t : ℕ) → LeafTie p n names size dest_bits link_flit link_channel (v t) t (state_at p n i t) (rows_at p n i t)
+
+-- So does such a leaf in a sound design, in each of its runs.
+abbrev pub TextRun : Type 0
+TextRun = (p : Plan) (n : ℕ) (names : LeafNames) (nets : NetNames) (q : PortNames) (base : ℕ
+    → ℕ) (size : BufferSize) (slot_high dest_bits link_flit link_channel : ℕ) (others : List Group)
+    (design : Design) (name : Name) (l : Leaf) (v : ℕ → Values) (i : ℕ → ℕ → TileIn) → IsSound p → n < tiles p
+    → GlueFits p size slot_high dest_bits link_flit link_channel
+    → IsSoundDesign design → leaf_named design.leaves name ≡ Some l
+    → l.items ≡ all_items (leaf_groups p n names nets q base size slot_high dest_bits link_flit link_channel
+    ++ others)
+    → Joined p n names nets q (leaf_widths l) → IsLeafRun l v
+    → ((t : ℕ) → LeafIn p n q base dest_bits link_flit link_channel (v t) t (state_at p n i t) (i t))
+    → (t : ℕ) → LeafTie p n names size dest_bits link_flit link_channel (v t) t (state_at p n i t) (rows_at p n i t)
+
+-- The output ports of a leaf that is tied to its tile show what the tile parts give out.
+abbrev pub OutsShown : Type 0
+OutsShown = (p : Plan) (n : ℕ) (names : LeafNames) (nets : NetNames) (out : OutNames) (size : BufferSize)
+    (dest_bits link_flit link_channel : ℕ) (w : Widths) (v : Values) (t : ℕ) (s : ℕ → Tile) (shared : ℕ → ℕ
+    → Option LinkFlit) → IsSound p → ((o : ℕ) → HasLink p n o → HoldsIn (link_out_group p names out o) w v)
+    → ((d : ℕ) → d < length p.domains → hosts p n d ≡ true
+    → HoldsIn (local_out_group p names nets out size dest_bits d) w v)
+    → LeafTie p n names size dest_bits link_flit link_channel v t s shared
+    → LeafOut p n out dest_bits link_flit link_channel v s shared
+
+-- The largest sizes are enough for every plan.
+abbrev pub SizesFit : Type 0
+SizesFit = (p : Plan) → IsSound p → GlueFits p largest_size 5 8 42 3
+
+-- Each bit of a bundle of credits that goes out is the pulse of its domain and channel.
+abbrev pub CreditsShown : Type 0
+CreditsShown = (p : Plan) (n : ℕ) (names : LeafNames) (size : BufferSize) (dest_bits link_flit link_channel : ℕ)
+    (bundle : Name) (port first count : ℕ) (domain channel : ℕ → ℕ) (w : Widths) (v : Values) (t : ℕ) (s : ℕ
+    → Tile) (shared : ℕ → ℕ → Option LinkFlit)
+    → HoldsIn (credit_out_group names bundle port first count domain channel) w v
+    → LeafTie p n names size dest_bits link_flit link_channel v t s shared → HasLink p n port
+    → (r : ℕ) → first ≤ r → r < first + count → domain r < length p.domains → channel r < link_channels p (domain r)
+    → v.net bundle / 2 ^ (r - first) % 2 ≡ one_if ((s (domain r)).pulse port (channel r))

@@ -3,10 +3,14 @@ pub mod Alloc
 pub mod Slots
 pub mod Buffers
 pub mod Tie
+pub mod Attach
 pub mod Tags
 pub mod Switch
 pub mod Links
 pub mod Counts
 pub mod Fits
 pub mod Glue
+pub mod Whole
+pub mod Outs
+pub mod Sizes
 pub mod Laws

@@ -1,5 +1,5 @@
 //! Laws over the definitions.
-ghost use Rattle.gen_router.specs.Laws.{AllocKept, SlotKept, SlotShown, LeavingOwner, ArrivingOwner, BufferKept, ArrivalPushes, ReadyShown, TurnsKept, ChoicesKept, OnShown, FreedShown, LinkKept, IdleKept, CreditKept, RotateNetsFit, ClassNetsFit, OwnDrivers, InOrderTogether, LeavesShown, LeafKept, LeafRun, GroupsMove};
+ghost use Rattle.gen_router.specs.Laws.{AllocKept, SlotKept, SlotShown, LeavingOwner, ArrivingOwner, BufferKept, ArrivalPushes, ReadyShown, TurnsKept, ChoicesKept, OnShown, FreedShown, LinkKept, IdleKept, CreditKept, RotateNetsFit, ClassNetsFit, OwnDrivers, InOrderTogether, LeavesShown, LeafKept, LeafRun, GroupsMove, GroupsRun, TextRun, OutsShown, SizesFit, CreditsShown};
 
 /// An edge keeps who waits for an output, who holds which channel, and the pointer, as a step has them.
 pub fn alloc_kept()
@@ -114,4 +114,29 @@ pub fn leaf_run()
 /// Where a leaf's items are those of some groups, each of the groups moves over an edge.
 pub fn groups_move()
     ensures { GroupsMove }
+{}
+
+/// A leaf whose items are those of all groups, and of others, holds the tile parts of all domains in every cycle.
+pub fn groups_run()
+    ensures { GroupsRun }
+{}
+
+/// So does such a leaf in a sound design, in each of its runs.
+pub fn text_run()
+    ensures { TextRun }
+{}
+
+/// The output ports of a leaf that is tied to its tile show what the tile parts give out.
+pub fn outs_shown()
+    ensures { OutsShown }
+{}
+
+/// The largest sizes are enough for every plan.
+pub fn sizes_fit()
+    ensures { SizesFit }
+{}
+
+/// Each bit of a bundle of credits that goes out is the pulse of its domain and channel.
+pub fn credits_shown()
+    ensures { CreditsShown }
 {}
