@@ -1,0 +1,14 @@
+pub mod Frames
+pub mod Start
+pub mod Arrived
+pub mod Given
+pub mod Placed
+pub mod Asked
+pub mod Takes
+pub mod Telling
+pub mod Attached
+pub mod Passed
+pub mod Through
+pub mod Turned
+pub mod Sending
+pub mod Cleared
