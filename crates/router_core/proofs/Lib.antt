@@ -12,3 +12,4 @@ pub mod Through
 pub mod Turned
 pub mod Sending
 pub mod Cleared
+pub mod Moving

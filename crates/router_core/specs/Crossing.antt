@@ -15,7 +15,7 @@ use Rattle.vc_alloc.specs.Allocator.{held_at}
 use Rattle.slot_switch.specs.declared.Granted.{Granted}
 use Rattle.slot_switch.specs.Switch.{switch_at, granted_in, moved}
 use Rattle.slot_switch.specs.Asked.{AsksAs}
-use Rattle.router_core.specs.Heads.{front_of}
+use Rattle.router_core.specs.Heads.{front_of, placed}
 use Rattle.router_core.specs.Parts.{Parts}
 use Rattle.router_core.specs.Sends.{ends, passed_parts}
 use Rattle.router_core.specs.Sizes.{IsMade}
@@ -69,6 +69,10 @@ until o f q = if nat_lt q o then f q else None
 abbrev pub crossed_below : ℕ → Plan → ℕ → ℕ → ℤ → Tile → TileIn → Tile → Tile
 crossed_below o p d n t s i v =
     through v (λ port. under o (grant p d n t s i port)) (until o (sent p d n t s i)) (until o (chosen p d n t s i))
+
+-- the tile after its heads were placed, and its flits sent
+abbrev pub switched : Plan → ℕ → ℕ → ℤ → Tile → TileIn → Tile
+switched p d n t s i = through (placed p d n s) (grant p d n t s i) (sent p d n t s i) (chosen p d n t s i)
 
 -- the router shows the tile v, and its ports ask for what the tile s asks for in cycle t, whose flits and credits v has
 pub record IsSending (p : Plan) (d : ℕ) (r : Parts) (s v : Tile) (t : ℕ) (i : TileIn) : Type 0 where

@@ -8,7 +8,7 @@ ghost use Rattle.noc_model.specs.Plan.{Plan as PlanValue, tiles, ports, channels
 ghost use Rattle.noc_model.specs.Inputs.{place, input_count, input_port, input_channel};
 ghost use Rattle.noc_model.specs.SoundState.{IsOutput, HasOutput};
 ghost use Rattle.noc_model.specs.Tile.{Tile, start_tile};
-ghost use Rattle.noc_model.specs.Step.{asked, is_open, is_ready, is_ready_at, is_ready_packet, takes, with_channel};
+ghost use Rattle.noc_model.specs.Step.{asked, is_open, is_ready, is_ready_at, is_ready_packet, sent, takes, with_channel};
 ghost use Rattle.noc_model.specs.Events.{ejected_of};
 ghost use Rattle.wave_sched.specs.Wheels.{Stands};
 ghost use Rattle.credit_links.specs.Counts.{count_at, with_count};
@@ -23,8 +23,8 @@ ghost use Rattle.router_core.specs.Attach.{entered, attached_parts, attached};
 ghost use Rattle.router_core.specs.Asks.{HaveOutputs, AsksBelow, requested};
 ghost use Rattle.router_core.specs.Heads.{FrontsGo, placed, front_of};
 ghost use Rattle.router_core.specs.Sends.{ends, passed_parts, passed};
-ghost use Rattle.router_core.specs.Ready.{silent};
-ghost use Rattle.router_core.specs.Crossing.{CanPass, CanSend, SendsBelow, sent_by, sent_parts};
+ghost use Rattle.router_core.specs.Ready.{IsReady, silent};
+ghost use Rattle.router_core.specs.Crossing.{CanPass, CanSend, SendsBelow, laid, laid_at, sent_by, sent_parts, switched};
 ghost use Rattle.router_core.specs.Parts.{start_parts};
 ghost use Rattle.router_core.specs.Pulses.{no_pulses};
 ghost use Rattle.router_core.specs.Sizes.{HasBuffers, IsMade};
@@ -402,6 +402,40 @@ impl Router {
             let flit = self.send(plan, d, out);
             lay(links, out, flit);
         }
+    }
+
+    /// Domain `d` places its heads and sends its flits, as the definition does in this cycle: a flit that goes out by a
+    /// port takes the place of what was in `links`.
+    fn move_flits(&mut self, plan: &Plan, d: u32, links: &mut [Option<LinkFlit>])
+        requires made { IsMade self.old plan.now }
+        requires domain { d < length plan.now.domains }
+        requires ready { IsReady plan.now d self.old }
+        requires quiet { (o : ℕ) → best_at self.old.allocator o ≡ None }
+        requires links { length links.old ≡ ports plan.now }
+        ensures rest { self.new ≡ record self.old {
+          buffers = self.new.buffers;
+          stages = self.new.stages;
+          pulses = self.new.pulses;
+          allocator = self.new.allocator;
+          switch = self.new.switch;
+          credits = self.new.credits;
+        } }
+        ensures own { (s : Tile) (t : ℕ) → Shows self.old plan.now d s → Stands self.old.wheel plan.now self.old.tile t
+            → Shows self.new plan.now d
+            (switched plan.now d self.old.tile (pos t) s (outside (told_at self.old.told d))) }
+        ensures sent { (s : Tile) (t o : ℕ) → Shows self.old plan.now d s
+            → Stands self.old.wheel plan.now self.old.tile t → o < ports plan.now → laid_at links.new o
+            ≡ laid (sent plan.now d self.old.tile (pos t) s (outside (told_at self.old.told d)) o)
+            (laid_at links.old o) }
+        ensures others { (e : ℕ) (s : Tile) → e ≢ d → Shows self.old plan.now e s → Shows self.new plan.now e s }
+        ensures made { IsMade self.new plan.now }
+        ensures quiet { (o : ℕ) → best_at self.new.allocator o ≡ None }
+        ensures links { length links.new ≡ length links.old }
+    {
+        self.clear(plan, d);
+        self.ask_all(plan, d);
+        self.place_heads(plan, d);
+        self.send_all(plan, d, links);
     }
 
     /// The attachment of domain `d` takes the word that is offered, if it was ready for one, and ejects a flit, if there
