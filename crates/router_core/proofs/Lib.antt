@@ -13,3 +13,5 @@ pub mod Turned
 pub mod Sending
 pub mod Cleared
 pub mod Moving
+pub mod Stepped
+pub mod Advanced

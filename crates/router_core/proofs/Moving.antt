@@ -83,6 +83,25 @@ module _ (r : Parts) (p : Plan) (d : ℕ) (made : IsMade r p) (there : d < lengt
   pub ready-below : (k : ℕ) → GoesBelow (ports p) (stage_at r.stages d k)
   ready-below k = below-of (stage_at r.stages d k) (ready-outs k)
 
+-- ---- what a tile that is shown has
+
+module _ (p : Plan) (d : ℕ) (r : Parts) (ready : IsReady p d r) (s : Tile) (shown : Shows r p d s) where
+  same-stage : (port c : ℕ) → port < ports p → c < link_channels p d → s.stage port c ≡ ready.tile.stage port c
+  same-stage port c port_in c_in = sym (shown.stage port c port_in c_in) ∙ ready.shows.stage port c port_in c_in
+
+  out-within : (o w c : ℕ) → c < link_channels p d → w < out_channels p d o → w < link_channels p d
+  out-within zero w c c_in below = omega (arith, c_in, below)
+  out-within (suc o) w c c_in below = below
+
+  pub holds : (o w port c : ℕ) → IsHolder p d s o w port c → s.held o w ≡ true
+  holds o w port c g =
+      let c_in = input-within p d port c g.below in
+      let active = sym (same-stage port c g.inside c_in) ∙ g.active in
+      let out : HasOutput p d r.tile (Active o w) = subst (HasOutput p d r.tile) active (ready.outs port c g.inside c_in) in
+      let o_in = output-below p r.tile o out.0 in
+      let w_in = out-within o w c c_in out.1 in
+      sym (shown.held o w o_in w_in) ∙ ready.shows.held o w o_in w_in ∙ ready.held o w port c (record { inside = g.inside; below = g.below; active = active })
+
 -- ---- the router that sends
 
 -- the router after a domain began its cycle, asked, and placed its heads
@@ -137,22 +156,6 @@ module _ (p : Plan) (d : ℕ) (r : Parts) (x1 x2 : Switch) (v1 : List (List (Opt
   r3 = headed_parts r x2 v1 a3 st3
 
   module _ (s : Tile) (t : ℕ) (shown : Shows r p d s) (stands : Stands r.wheel p r.tile t) where
-    same-stage : (port c : ℕ) → port < ports p → c < link_channels p d → s.stage port c ≡ ready.tile.stage port c
-    same-stage port c port_in c_in = sym (shown.stage port c port_in c_in) ∙ ready.shows.stage port c port_in c_in
-
-    out-within : (o w c : ℕ) → c < link_channels p d → w < out_channels p d o → w < link_channels p d
-    out-within zero w c c_in below = omega (arith, c_in, below)
-    out-within (suc o) w c c_in below = below
-
-    holds : (o w port c : ℕ) → IsHolder p d s o w port c → s.held o w ≡ true
-    holds o w port c g =
-        let c_in = input-within p d port c g.below in
-        let active = sym (same-stage port c g.inside c_in) ∙ g.active in
-        let out : HasOutput p d r.tile (Active o w) = subst (HasOutput p d r.tile) active (ready.outs port c g.inside c_in) in
-        let o_in = output-below p r.tile o out.0 in
-        let w_in = out-within o w c c_in out.1 in
-        sym (shown.held o w o_in w_in) ∙ ready.shows.held o w o_in w_in ∙ ready.held o w port c (record { inside = g.inside; below = g.below; active = active })
-
     shown3 : Shows r3 p d (placed p d r.tile (silent s))
     shown3 = h.heads (silent s) (h.asking (silent s) (h.began s shown))
 
@@ -168,8 +171,8 @@ module _ (p : Plan) (d : ℕ) (r : Parts) (x1 x2 : Switch) (v1 : List (List (Opt
       queue = λ port c port_in c_in. refl;
       credits = λ o w. refl;
       switch = λ o. refl;
-      held = λ o w port c g. ap (λ b. b || is_place (taken_channel p d r.tile (silent s) o) w) (holds o w port c (record { inside = g.inside; below = g.below; active = g.active }));
-      outs = λ port c port_in c_in. subst (HasOutput p d r.tile) (sym (same-stage port c port_in c_in)) (ready.outs port c port_in c_in);
+      held = λ o w port c g. ap (λ b. b || is_place (taken_channel p d r.tile (silent s) o) w) (holds p d r ready s shown o w port c (record { inside = g.inside; below = g.below; active = g.active }));
+      outs = λ port c port_in c_in. subst (HasOutput p d r.tile) (sym (same-stage p d r ready s shown port c port_in c_in)) (ready.outs port c port_in c_in);
     }
 
     until-all : {T : Type 0} (f : ℕ → Option T) (q : ℕ) → q < ports p → until (ports p) f q ≡ f q

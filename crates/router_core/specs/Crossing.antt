@@ -1,5 +1,5 @@
 -- The switch of a domain: its outputs send, one after the other.
-use Rattle.std.specs.Prelude.{◌≡◌, ◌≢◌, ℕ, ◌+◌, ◌-◌, ◌<◌, ◌≤◌, ◌&&◌, nat_lt, Bool, true, false, not, List, length, drop, slice_index_or, slice_set, Option, Some, None, option_and_then, if◌then◌else◌, ℤ, pos}
+use Rattle.std.specs.Prelude.{◌≡◌, ◌≢◌, ℕ, ◌+◌, ◌-◌, ◌<◌, ◌≤◌, ◌&&◌, nat_lt, Bool, true, false, not, List, length, drop, slice_index_or, slice_set, Option, Some, None, option_and_then, option_map, if◌then◌else◌, ℤ, pos}
 use Rattle.noc_model.specs.declared.Flit.{Flit}
 use Rattle.noc_model.specs.declared.LinkFlit.{LinkFlit}
 use Rattle.noc_model.specs.declared.Grant.{Grant}
@@ -97,6 +97,10 @@ pub record CanSend (p : Plan) (d : ℕ) (r : Parts) : Type 0 where
 abbrev pub laid : Option LinkFlit → Option LinkFlit → Option LinkFlit
 laid None old = old
 laid (Some x) old = Some x
+
+-- the flit of what goes out, without its channel
+abbrev pub flit_of : Option LinkFlit → Option Flit
+flit_of x = option_map (λ (y : LinkFlit). y.flit) x
 
 -- what lies at output o
 abbrev pub laid_at : List (Option LinkFlit) → ℕ → Option LinkFlit

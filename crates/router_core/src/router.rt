@@ -8,7 +8,7 @@ ghost use Rattle.noc_model.specs.Plan.{Plan as PlanValue, tiles, ports, channels
 ghost use Rattle.noc_model.specs.Inputs.{place, input_count, input_port, input_channel};
 ghost use Rattle.noc_model.specs.SoundState.{IsOutput, HasOutput};
 ghost use Rattle.noc_model.specs.Tile.{Tile, start_tile};
-ghost use Rattle.noc_model.specs.Step.{asked, is_open, is_ready, is_ready_at, is_ready_packet, sent, takes, with_channel};
+ghost use Rattle.noc_model.specs.Step.{asked, is_open, is_ready, is_ready_at, is_ready_packet, sent, takes, tile_step, with_channel};
 ghost use Rattle.noc_model.specs.Events.{ejected_of};
 ghost use Rattle.wave_sched.specs.Wheels.{Stands};
 ghost use Rattle.credit_links.specs.Counts.{count_at, with_count};
@@ -36,7 +36,7 @@ use crate::attachments::{
 };
 use crate::buffers::Buffers;
 use crate::heads::{give_channels, route_heads, want_heads};
-use crate::sends::{finish, free, is_tail, lay, pulse, spend, with_channel};
+use crate::sends::{ejecting, finish, free, is_tail, lay, lift, pulse, spend, with_channel};
 use credit_links::Credits;
 use flit_word::{Ejected, Flit, LinkFlit};
 use noc_model::Plan;
@@ -436,6 +436,42 @@ impl Router {
         self.ask_all(plan, d);
         self.place_heads(plan, d);
         self.send_all(plan, d, links);
+    }
+
+    /// One cycle of domain `d`, in which nothing arrives and no credit comes back: a flit that goes out by a link takes the
+    /// place of what was in `links`.
+    fn advance_domain(&mut self, plan: &Plan, d: u32, links: &mut [Option<LinkFlit>])
+        requires made { IsMade self.old plan.now }
+        requires domain { d < length plan.now.domains }
+        requires ready { IsReady plan.now d self.old }
+        requires quiet { (o : ℕ) → best_at self.old.allocator o ≡ None }
+        requires links { length links.old ≡ ports plan.now }
+        ensures rest { self.new ≡ record self.old {
+          buffers = self.new.buffers;
+          stages = self.new.stages;
+          pulses = self.new.pulses;
+          allocator = self.new.allocator;
+          switch = self.new.switch;
+          credits = self.new.credits;
+          attachments = self.new.attachments;
+        } }
+        ensures own { (s : Tile) (t : ℕ) → Shows self.old plan.now d s → Stands self.old.wheel plan.now self.old.tile t
+            → Shows self.new plan.now d
+            (tile_step plan.now d self.old.tile (pos t) s (outside (told_at self.old.told d))) }
+        ensures sent { (s : Tile) (t o : ℕ) → Shows self.old plan.now d s
+            → Stands self.old.wheel plan.now self.old.tile t → o ≢ 0 → o < ports plan.now → laid_at links.new o
+            ≡ laid (sent plan.now d self.old.tile (pos t) s (outside (told_at self.old.told d)) o)
+            (laid_at links.old o) }
+        ensures others { (e : ℕ) (s : Tile) → e ≢ d → Shows self.old plan.now e s → Shows self.new plan.now e s }
+        ensures made { IsMade self.new plan.now }
+        ensures quiet { (o : ℕ) → best_at self.new.allocator o ≡ None }
+        ensures links { length links.new ≡ length links.old }
+    {
+        let ready = self.ready(plan, d);
+        lift(links);
+        self.move_flits(plan, d, links);
+        let eject = ejecting(links);
+        self.attach(plan, d, ready, eject);
     }
 
     /// The attachment of domain `d` takes the word that is offered, if it was ready for one, and ejects a flit, if there

@@ -1,13 +1,13 @@
 //! What changes with a flit that goes through the switch.
 
-ghost use Rattle.std.specs.Prelude.{◌≡◌, ◌≢◌, ◌<◌, length, true};
+ghost use Rattle.std.specs.Prelude.{◌≡◌, ◌≢◌, ◌<◌, length, slice_set, true, None};
 ghost use Rattle.noc_model.specs.Plan.{ports, link_channels};
 ghost use Rattle.noc_model.specs.Step.{is_tail, with_channel};
 ghost use Rattle.vc_partition.specs.Lanes.{lane};
 ghost use Rattle.noc_model.specs.Inputs.{place};
 ghost use Rattle.credit_links.specs.Counts.{count_at};
 ghost use Rattle.vc_alloc.specs.Allocator.{held_at, link_channels_at};
-ghost use Rattle.router_core.specs.Crossing.{laid_on};
+ghost use Rattle.router_core.specs.Crossing.{flit_of, laid_at, laid_on};
 ghost use Rattle.router_core.specs.Sends.{pulsed, spent, finished, freed};
 ghost use Rattle.router_core.specs.Sizes.{HasCredits};
 
@@ -93,5 +93,24 @@ pub(crate) fn lay(links: &mut [Option<LinkFlit>], out: u32, flit: Option<LinkFli
 {
     if flit.is_some() {
         links[out as usize] = flit;
+    }
+}
+
+/// Nothing goes out by the local port.
+pub(crate) fn lift(links: &mut [Option<LinkFlit>])
+    requires { 0 < length links.old }
+    ensures { links.new ≡ slice_set links.old 0 None }
+{
+    links[0] = None;
+}
+
+/// The flit that goes out by the local port, if there is one.
+pub(crate) fn ejecting(links: &[Option<LinkFlit>]) -> Option<Flit>
+    requires { 0 < length links.now }
+    ensures { result ≡ flit_of (laid_at links.now 0) }
+{
+    match links[0] {
+        Some(x) => Some(x.flit),
+        None => None,
     }
 }
