@@ -15,3 +15,4 @@ pub mod Cleared
 pub mod Moving
 pub mod Stepped
 pub mod Advanced
+pub mod Ticked

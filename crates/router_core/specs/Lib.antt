@@ -10,3 +10,4 @@ pub mod Attach
 pub mod Sends
 pub mod Crossing
 pub mod Ready
+pub mod Advance

@@ -16,4 +16,4 @@ mod sends;
 mod tests;
 
 pub use attachments::Told;
-pub use router::Router;
+pub use router::{Router, RouterOut};

@@ -1,16 +1,19 @@
 //! The router of a tile.
 
-ghost use Rattle.std.specs.Prelude.{◌≡◌, ◌≢◌, ◌<◌, ◌+◌, ◌++◌, ◌∷◌, [], ℕ, List, length, map, replicate, slice_set, true, None, pos, IfSome, IfOk};
+ghost use Rattle.std.specs.Prelude.{◌≡◌, ◌≢◌, ◌<◌, ◌+◌, ◌++◌, ◌∷◌, [], ℕ, List, length, map, replicate, slice_set, true, None, Some, pos, ◌-ℤ◌, IfSome, IfOk};
 ghost use Rattle.std.specs.List.{range_with_len};
 ghost use Rattle.noc_model.specs.declared.Flit.{Flit as FlitValue};
 ghost use Rattle.noc_model.specs.declared.Stage.TheVariants.{Idle};
 ghost use Rattle.noc_model.specs.Plan.{Plan as PlanValue, tiles, ports, channels, link_channels, out_channels};
 ghost use Rattle.noc_model.specs.Inputs.{place, input_count, input_port, input_channel};
+ghost use Rattle.noc_model.specs.Place.{owner, neighbour, opposite};
 ghost use Rattle.noc_model.specs.SoundState.{IsOutput, HasOutput};
 ghost use Rattle.noc_model.specs.Tile.{Tile, start_tile};
 ghost use Rattle.noc_model.specs.Step.{asked, is_open, is_ready, is_ready_at, is_ready_packet, sent, takes, tile_step, with_channel};
 ghost use Rattle.noc_model.specs.Events.{ejected_of};
-ghost use Rattle.wave_sched.specs.Wheels.{Stands};
+ghost use Rattle.wave_sched.specs.Wheels.{Stands, wheel_ports};
+ghost use Rattle.vc_partition.specs.Lanes.{lane};
+ghost use Rattle.router_core.specs.Pulses.{pulse_at};
 ghost use Rattle.credit_links.specs.Counts.{count_at, with_count};
 ghost use Rattle.route_stage.specs.Routed.{stage_at};
 ghost use Rattle.vc_alloc.specs.Allocator.{best_at, held_at};
@@ -23,6 +26,7 @@ ghost use Rattle.router_core.specs.Attach.{entered, attached_parts, attached};
 ghost use Rattle.router_core.specs.Asks.{HaveOutputs, AsksBelow, requested};
 ghost use Rattle.router_core.specs.Heads.{FrontsGo, placed, front_of};
 ghost use Rattle.router_core.specs.Sends.{ends, passed_parts, passed};
+ghost use Rattle.router_core.specs.Advance.{cycled};
 ghost use Rattle.router_core.specs.Ready.{IsReady, silent};
 ghost use Rattle.router_core.specs.Crossing.{CanPass, CanSend, SendsBelow, laid, laid_at, sent_by, sent_parts, switched};
 ghost use Rattle.router_core.specs.Parts.{start_parts};
@@ -36,7 +40,9 @@ use crate::attachments::{
 };
 use crate::buffers::Buffers;
 use crate::heads::{give_channels, route_heads, want_heads};
-use crate::sends::{ejecting, finish, free, is_tail, lay, lift, pulse, spend, with_channel};
+use crate::sends::{
+    ejecting, empty_links, finish, free, is_tail, lay, lift, pulse, spend, with_channel,
+};
 use credit_links::Credits;
 use flit_word::{Ejected, Flit, LinkFlit};
 use noc_model::Plan;
@@ -47,6 +53,27 @@ use tile_iface::{ejected_of, entry, is_ready_packet};
 use vc_alloc::VcAlloc;
 use vc_partition::{Grant, Lanes, Stage, channel_count, input_counts, place, port_counts};
 use wave_sched::Wheel;
+
+/// What a tile sends in a cycle.
+#[derive(Drop)]
+pub struct RouterOut {
+    /// By output port, the flit that goes onto the link. Port 0 has none.
+    pub links: Vec<Option<LinkFlit>>,
+}
+
+impl RouterOut {
+    /// Nothing that a tile sends. All memory is taken here.
+    ///
+    /// # Errors
+    ///
+    /// When memory runs out.
+    pub fn new(alloc: Global, plan: &Plan) -> Result<RouterOut, AllocError>
+        ensures { IfOk result (λ out. length out.links.items ≡ ports plan.now) }
+    {
+        let links = vec![in alloc; None; plan.ports() as usize]?;
+        Ok(RouterOut { links })
+    }
+}
 
 /// What a tile keeps for all domains.
 #[derive(Drop)]
@@ -436,6 +463,84 @@ impl Router {
         self.ask_all(plan, d);
         self.place_heads(plan, d);
         self.send_all(plan, d, links);
+    }
+
+    /// The channel that a flit of domain `d` left in the last cycle, by an input port: a credit goes back for it.
+    pub fn pulse(&self, d: u32, port: u32) -> Option<u32>
+        requires domain { d < length self.now.pulses }
+        requires port { port < length (lane self.now.pulses d) }
+        ensures { result ≡ pulse_at self.now.pulses d port }
+    {
+        *self.pulses.at(d, port)
+    }
+
+    /// The domain of a flit that arrives now by a port, which has a link.
+    pub fn arriving(&self, port: u32) -> u32
+        requires { port < wheel_ports self.now.wheel }
+        ensures value { (p : PlanValue) (n t m : ℕ) → Stands self.now.wheel p n t → neighbour p n port ≡ Some m
+            → result ≡ owner p m (opposite port) (pos t -ℤ pos p.stages) }
+        ensures domain { (p : PlanValue) (n t : ℕ) → Stands self.now.wheel p n t → result < length p.domains }
+    {
+        self.wheel.arriving(port)
+    }
+
+    /// Goes one cycle on: the owners of the links are those of the next cycle.
+    pub fn tick(&mut self)
+        ensures rest { self.new ≡ record self.old { wheel = self.new.wheel } }
+        ensures stands { (p : PlanValue) (n t : ℕ) → Stands self.old.wheel p n t
+            → Stands self.new.wheel p n (t + 1) }
+        ensures shows { (p : PlanValue) (d : ℕ) (s : Tile) → Shows self.old p d s → Shows self.new p d s }
+        ensures made { (p : PlanValue) (n t : ℕ) → Stands self.old.wheel p n t → IsMade self.old p
+            → IsMade self.new p }
+    {
+        self.wheel.tick();
+    }
+
+    /// One cycle of all domains, in which nothing arrives and no credit comes back: what arrives and comes back is added
+    /// afterwards, by `arrive` and `restore`. Then `out` has for each port with a link what the domain that owns the
+    /// link in this cycle sends.
+    pub fn advance(&mut self, plan: &Plan, out: &mut RouterOut)
+        requires made { IsMade self.old plan.now }
+        requires ready { (d : ℕ) → d < length plan.now.domains → IsReady plan.now d self.old }
+        requires quiet { (o : ℕ) → best_at self.old.allocator o ≡ None }
+        requires links { length out.old.links.items ≡ ports plan.now }
+        ensures steps { (d : ℕ) (s : Tile) (t : ℕ) → d < length plan.now.domains → Shows self.old plan.now d s
+            → Stands self.old.wheel plan.now self.old.tile t → Shows self.new plan.now d
+            (tile_step plan.now d self.old.tile (pos t) s (outside (told_at self.old.told d))) }
+        ensures sent { (d o : ℕ) (s : Tile) (t : ℕ) → d < length plan.now.domains → o ≢ 0 → o < ports plan.now
+            → owner plan.now self.old.tile o (pos t) ≡ d → Shows self.old plan.now d s
+            → Stands self.old.wheel plan.now self.old.tile t → laid_at out.new.links.items o
+            ≡ sent plan.now d self.old.tile (pos t) s (outside (told_at self.old.told d)) o }
+        ensures rest { self.new ≡ cycled self.old self.new }
+        ensures made { IsMade self.new plan.now }
+        ensures quiet { (o : ℕ) → best_at self.new.allocator o ≡ None }
+        ensures links { length out.new.links.items ≡ ports plan.now }
+    {
+        self.advance_links(plan, &mut out.links);
+    }
+
+    /// One cycle of all domains, after which `links` has for each port with a link what goes out there.
+    fn advance_links(&mut self, plan: &Plan, links: &mut [Option<LinkFlit>])
+        requires made { IsMade self.old plan.now }
+        requires ready { (d : ℕ) → d < length plan.now.domains → IsReady plan.now d self.old }
+        requires quiet { (o : ℕ) → best_at self.old.allocator o ≡ None }
+        requires links { length links.old ≡ ports plan.now }
+        ensures steps { (d : ℕ) (s : Tile) (t : ℕ) → d < length plan.now.domains → Shows self.old plan.now d s
+            → Stands self.old.wheel plan.now self.old.tile t → Shows self.new plan.now d
+            (tile_step plan.now d self.old.tile (pos t) s (outside (told_at self.old.told d))) }
+        ensures sent { (d o : ℕ) (s : Tile) (t : ℕ) → d < length plan.now.domains → o ≢ 0 → o < ports plan.now
+            → owner plan.now self.old.tile o (pos t) ≡ d → Shows self.old plan.now d s
+            → Stands self.old.wheel plan.now self.old.tile t → laid_at links.new o
+            ≡ sent plan.now d self.old.tile (pos t) s (outside (told_at self.old.told d)) o }
+        ensures rest { self.new ≡ cycled self.old self.new }
+        ensures made { IsMade self.new plan.now }
+        ensures quiet { (o : ℕ) → best_at self.new.allocator o ≡ None }
+        ensures links { length links.new ≡ length links.old }
+    {
+        empty_links(links);
+        for d in 0..plan.domains() {
+            self.advance_domain(plan, d, links);
+        }
     }
 
     /// One cycle of domain `d`, in which nothing arrives and no credit comes back: a flit that goes out by a link takes the

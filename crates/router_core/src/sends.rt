@@ -1,6 +1,6 @@
 //! What changes with a flit that goes through the switch.
 
-ghost use Rattle.std.specs.Prelude.{◌≡◌, ◌≢◌, ◌<◌, length, slice_set, true, None};
+ghost use Rattle.std.specs.Prelude.{◌≡◌, ◌≢◌, ◌<◌, ℕ, length, slice_set, true, None};
 ghost use Rattle.noc_model.specs.Plan.{ports, link_channels};
 ghost use Rattle.noc_model.specs.Step.{is_tail, with_channel};
 ghost use Rattle.vc_partition.specs.Lanes.{lane};
@@ -112,5 +112,15 @@ pub(crate) fn ejecting(links: &[Option<LinkFlit>]) -> Option<Flit>
     match links[0] {
         Some(x) => Some(x.flit),
         None => None,
+    }
+}
+
+/// Nothing goes out by any port.
+pub(crate) fn empty_links(links: &mut [Option<LinkFlit>])
+    ensures none { (o : ℕ) → o < length links.old → laid_at links.new o ≡ None }
+    ensures count { length links.new ≡ length links.old }
+{
+    for k in 0..links.len() {
+        links[k] = None;
     }
 }
