@@ -23,6 +23,7 @@ use Rattle.router_core.specs.Attachments.{attachment_at, told_at, outside}
 use Rattle.router_core.specs.Buffers.{flits_at}
 use Rattle.router_core.specs.Crossing.{laid, laid_at, flit_of, switched}
 use Rattle.router_core.specs.Parts.{Parts}
+use Rattle.router_core.specs.Pulses.{ArePulses}
 use Rattle.router_core.specs.Ready.{IsReady}
 use Rattle.router_core.specs.Sizes.{IsMade}
 use Rattle.router_core.specs.Shown.{Shows}
@@ -108,6 +109,7 @@ advances-none p r links made quiet count none = record {
   made = made;
   rest = refl;
   quiet = quiet;
+  kept = λ are. are;
   count = count;
   steps = λ d s t below shown stands. absurd (omega (arith, below));
   waits = λ d s past shown. shown;
@@ -117,7 +119,7 @@ advances-none p r links made quiet count none = record {
 
 -- one domain more
 module _ (m : ℕ) (p : Plan) (r q z : Parts) (links after : List (Option LinkFlit)) (before : AdvancesBelow m p r q links) (ready : IsReady p m r)
-    (rest : z ≡ cycled q z) (made : IsMade z p) (quiet : (o : ℕ) → best_at z.allocator o ≡ None) (count : length after ≡ length links)
+    (rest : z ≡ cycled q z) (made : IsMade z p) (quiet : (o : ℕ) → best_at z.allocator o ≡ None) (kept : ArePulses p q.pulses → ArePulses p z.pulses) (count : length after ≡ length links)
     (own : (s : Tile) (t : ℕ) → Shows q p m s → Stands q.wheel p q.tile t → Shows z p m (tile_step p m q.tile (pos t) s (outside (told_at q.told m))))
     (lays : (s : Tile) (t o : ℕ) → Shows q p m s → Stands q.wheel p q.tile t → o ≢ 0 → o < ports p
     → laid_at after o ≡ laid (sent p m q.tile (pos t) s (outside (told_at q.told m)) o) (laid_at links o))
@@ -145,6 +147,7 @@ module _ (m : ℕ) (p : Plan) (r q z : Parts) (links after : List (Option LinkFl
     made = made;
     rest = rest ∙ ap (λ y. cycled y z) before.rest;
     quiet = quiet;
+    kept = λ are. kept (before.kept are);
     count = count ∙ before.count;
     steps = λ d s t below shown stands.
         let P : ℕ → Type 0 = λ k. Shows r p k s → Shows z p k (tile_step p k r.tile (pos t) s (outside (told_at r.told k))) in

@@ -14,7 +14,7 @@ use Rattle.router_core.specs.Parts.{Parts}
 use Rattle.router_core.specs.Ready.{ClearBelow, silent}
 use Rattle.router_core.specs.Sizes.{HasSwitch, HasPorts, IsMade}
 use Rattle.router_core.specs.Shown.{Shows}
-use Rattle.router_core.proofs.Frames.{has-ports}
+use Rattle.router_core.proofs.Frames.{has-ports, pulses-set}
 
 pub clear-none : (p : Plan) (d : ℕ) (x : Switch) (u : List (List (Option ℕ))) → HasSwitch p x → HasPorts p u → ClearBelow 0 p d x x u u
 clear-none p d x u has ports = record {
@@ -25,6 +25,7 @@ clear-none p d x u has ports = record {
   asked = λ port below. absurd (omega (arith, below));
   left = λ port below. absurd (omega (arith, below));
   others = λ e apart. refl;
+  kept = λ are. are;
 }
 
 -- a place that is written, or one below it
@@ -51,6 +52,7 @@ clear-more k p d x y u v there k_in before = record {
   left = λ port below. written v d k port None None (let a = before.pulses.domains in omega (arith, a, there)) (let a = before.pulses.ports d there in omega (arith, a, k_in)) below
       (before.left port);
   others = λ e apart. lanes-other v d e k None apart ∙ before.others e apart;
+  kept = λ are. pulses-set p v d k None there k_in before.pulses (λ c none. absurd (cc none)) (before.kept are);
 }
 
 -- ---- the router

@@ -1,9 +1,9 @@
 -- What one write changes, and what stays.
-use Rattle.std.proofs.Common.{◌≡◌, ◌≢◌, ℕ, ◌<◌, Bool, true, false, List, [], length, set, get_or-set_same, get_or-set_other, length-set, sym, ap, ◌∙◌, arith, ⊎_elim, ◌⊎◌, inl, inr}
+use Rattle.std.proofs.Common.{◌≡◌, ◌≢◌, ℕ, ◌<◌, Bool, true, false, List, [], length, set, get_or-set_same, get_or-set_other, length-set, sym, ap, ◌∙◌, arith, ⊎_elim, ◌⊎◌, inl, inr, Option, Some, None, get_or}
 use Rattle.std.specs.Prelude.{◌==◌, ◌&&◌}
 use Rattle.std.proofs.lemmas.Bool.Decides.{eqb_tells}
 use Rattle.noc_model.specs.declared.Flit.{Flit}
-use Rattle.noc_model.specs.Plan.{Plan, link_channels}
+use Rattle.noc_model.specs.Plan.{Plan, ports, link_channels}
 use Rattle.noc_model.specs.Inputs.{place}
 use Rattle.noc_model.proofs.Inputs.{place-one}
 use Rattle.flit_pool.specs.Lists.{Lists, list_at}
@@ -13,6 +13,8 @@ use Rattle.route_stage.specs.Routed.{HasInputs}
 use Rattle.router_core.specs.Buffers.{no_lists, lists_at, flits_at, with_flits}
 use Rattle.router_core.specs.Sizes.{HasBuffers, HasPorts, HasCredits}
 use Rattle.router_core.specs.Sends.{is_at}
+use Rattle.router_core.specs.Pulses.{ArePulses}
+use Rattle.vc_partition.proofs.Cuts.{lane-written, lane-other}
 
 -- ---- places
 
@@ -89,6 +91,29 @@ has-ports p v d k x there h =
       domains = length-set v d _ ∙ h.domains;
       ports = λ e below. lane-count v d e k x inside ∙ h.ports e below;
     }
+
+-- a channel that there is, or none
+pub pulses-set : (p : Plan) (v : List (List (Option ℕ))) (d k : ℕ) (x : Option ℕ) → d < length p.domains → k < ports p → HasPorts p v → ((c : ℕ) → x ≡ Some c → c < link_channels p d)
+    → ArePulses p v → ArePulses p (set v d (set (lane v d) k x))
+pulses-set p v d k x there k_in has within are e port c e_in is = ⊎_elim
+    (λ z. go z.1)
+    (λ z. are e port c e_in (sym (ap (λ l. get_or l port None) (get_or-set_other v d e (set (lane v d) k x) [] z.1)) ∙ is))
+    (eqb_tells e d)
+  where
+    inside : d < length v
+    inside = let a = has.domains in omega (arith, a, there)
+
+    own : (c : ℕ) → get_or (lane (set v d (set (lane v d) k x)) d) port None ≡ Some c → c < link_channels p d
+    own c is = ⊎_elim
+        (λ y. within c (sym (ap (λ j. get_or (lane (set v d (set (lane v d) k x)) d) j None) y.1
+        ∙ lane-written v d k x None inside (let a = has.ports d there in omega (arith, a, k_in))) ∙ is))
+        (λ y. are d port c there (sym (lane-other v d k port x None inside y.1) ∙ is))
+        (eqb_tells port k)
+
+    go : e ≡ d → c < link_channels p e
+    go same =
+        let below = own c (ap (λ j. get_or (lane (set v d (set (lane v d) k x)) j) port None) (sym same) ∙ is) in
+        let l = ap (link_channels p) same in omega (arith, below, l)
 
 pub has-credits : (p : Plan) (x : Counts) (d k n : ℕ) → d < length p.domains → HasCredits p x → HasCredits p (with_count x d k n)
 has-credits p x d k n there h = record { counts = has-inputs p x.lanes d k n there h.counts; buffer = h.buffer }

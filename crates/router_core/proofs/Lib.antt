@@ -16,3 +16,4 @@ pub mod Moving
 pub mod Stepped
 pub mod Advanced
 pub mod Ticked
+pub mod Lawful

@@ -26,11 +26,13 @@ use Rattle.slot_switch.proofs.Defined.{chosen-is, granted-is, grant-granted}
 use Rattle.router_core.specs.Buffers.{flits_at}
 use Rattle.router_core.specs.Heads.{front_of}
 use Rattle.router_core.specs.Parts.{Parts}
-use Rattle.router_core.specs.Sizes.{IsMade}
+use Rattle.router_core.specs.Sizes.{HasPorts, IsMade}
 use Rattle.router_core.specs.Shown.{Shows}
-use Rattle.router_core.specs.Sends.{ends, freed, passed_parts, passed, turned}
+use Rattle.router_core.specs.Sends.{ends, freed, pulsed, passed_parts, passed, turned}
 use Rattle.router_core.specs.Crossing.{CanPass, sent_parts, sent_by, through, under, until, crossed_below, IsSending, CanSend, laid, laid_at, laid_on, SendsBelow}
 use Rattle.router_core.proofs.Passed.{passed-made, passed-own, passed-others}
+use Rattle.router_core.specs.Pulses.{ArePulses}
+use Rattle.router_core.proofs.Frames.{pulses-set}
 use Rattle.router_core.proofs.Takes.{takes-link}
 use Rattle.router_core.proofs.Through.{through-same, through-next}
 use Rattle.router_core.proofs.Turned.{turned_parts, turned-made, turned-own, turned-others, switch-ahead}
@@ -246,6 +248,11 @@ laid-more o k xs ys sends f inside is before = ⊎_elim
 
 -- ---- one output more
 
+pulsed-kept : (p : Plan) (d : ℕ) (v : List (List (Option ℕ))) (port c : ℕ) → d < length p.domains → port < ports p → c < link_channels p d → HasPorts p v → ArePulses p v → ArePulses p (pulsed v d port c)
+pulsed-kept p d v zero c there port_in c_in has are = are
+pulsed-kept p d v (suc port) c there port_in c_in has are =
+    pulses-set p v d (suc port) (Some c) there port_in has (λ k is. let same : c ≡ k = let both : Some c ≡ Some k = is in cc both in omega (arith, same, c_in)) are
+
 best-freed : (x : Allocator) (d o w : ℕ) (b : Bool) → (freed x d o w b).best ≡ x.best
 best-freed x d o w false = refl
 best-freed x d o w true = refl
@@ -283,6 +290,7 @@ module _ (o : ℕ) (p : Plan) (d : ℕ) (r q : Parts) (xs ys : List (Option Link
     asks = before.asks;
     ahead = λ k past. before.ahead k (omega (arith, past));
     best = before.best;
+    kept = before.kept;
     links = before.links;
     own = λ s v t i sending. none-shows p d o r s v t i sending o_in q (none-chosen p d o r s v t i sending o_in (sym same-grant ∙ e)) (before.own s v t i sending);
     others = before.others;
@@ -310,6 +318,7 @@ module _ (o : ℕ) (p : Plan) (d : ℕ) (r q : Parts) (xs ys : List (Option Link
         asks = before.asks;
         ahead = λ k past. switch-ahead q d o k x (let a = before.made.switch.switches.domains in omega (arith, a, there)) (omega (arith, past)) ∙ before.ahead k (omega (arith, past));
         best = best-freed q.allocator d x.grant.out x.grant.to (ends (turned_parts q d o x) p d x.port x.grant) ∙ before.best;
+        kept = λ are. pulsed-kept p d q.pulses x.port x.grant.channel there pass.port pass.channel before.made.pulses (before.kept are);
         links = laid-long ys o (sent_by q p d (Some x)) ∙ before.links;
         own = λ s v t i sending. one-shows p d o r s v t i sending o_in x (is-granted p d o r s v t i sending o_in x (sym same-grant ∙ e)) q (before.own s v t i sending) before.made there;
         others = λ e s apart shown. passed-others (turned_parts q d o x) p d x.port e x.grant s apart (turned-others q p d o e x s apart (before.others e s apart shown));
@@ -331,6 +340,7 @@ sends-none p d r xs made = record {
   asks = refl;
   ahead = λ k past. refl;
   best = refl;
+  kept = λ are. are;
   links = refl;
   own = λ s v t i sending. start p d r s v t i sending;
   others = λ e s apart shown. shown;

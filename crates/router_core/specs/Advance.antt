@@ -10,6 +10,7 @@ use Rattle.wave_sched.specs.Wheels.{Stands}
 use Rattle.router_core.specs.Attachments.{told_at, outside}
 use Rattle.router_core.specs.Crossing.{laid_at}
 use Rattle.router_core.specs.Parts.{Parts}
+use Rattle.router_core.specs.Pulses.{ArePulses}
 use Rattle.router_core.specs.Sizes.{IsMade}
 use Rattle.router_core.specs.Shown.{Shows}
 
@@ -31,6 +32,7 @@ pub record AdvancesBelow (m : ℕ) (p : Plan) (r q : Parts) (links : List (Optio
   pub made : IsMade q p
   pub rest : q ≡ cycled r q
   pub quiet : (o : ℕ) → best_at q.allocator o ≡ None
+  pub kept : ArePulses p r.pulses → ArePulses p q.pulses
   pub count : length links ≡ ports p
   pub steps : (d : ℕ) (s : Tile) (t : ℕ) → d < m → Shows r p d s → Stands r.wheel p r.tile t
       → Shows q p d (tile_step p d r.tile (pos t) s (outside (told_at r.told d)))

@@ -17,6 +17,7 @@ use Rattle.slot_switch.specs.Switch.{switch_at, granted_in, moved}
 use Rattle.slot_switch.specs.Asked.{AsksAs}
 use Rattle.router_core.specs.Heads.{front_of, placed}
 use Rattle.router_core.specs.Parts.{Parts}
+use Rattle.router_core.specs.Pulses.{ArePulses}
 use Rattle.router_core.specs.Sends.{ends, passed_parts}
 use Rattle.router_core.specs.Sizes.{IsMade}
 use Rattle.router_core.specs.Shown.{Shows}
@@ -118,6 +119,7 @@ pub record SendsBelow (o : ℕ) (p : Plan) (d : ℕ) (r q : Parts) (xs ys : List
   pub asks : q.switch.asks ≡ r.switch.asks
   pub ahead : (k : ℕ) → o ≤ k → switch_at q.switch d k ≡ switch_at r.switch d k
   pub best : q.allocator.best ≡ r.allocator.best
+  pub kept : ArePulses p r.pulses → ArePulses p q.pulses
   pub links : length ys ≡ length xs
   pub own : (s v : Tile) (t : ℕ) (i : TileIn) → IsSending p d r s v t i
       → Shows q p d (crossed_below o p d r.tile (pos t) s i v)

@@ -13,7 +13,6 @@ ghost use Rattle.noc_model.specs.Step.{asked, is_open, is_ready, is_ready_at, is
 ghost use Rattle.noc_model.specs.Events.{ejected_of};
 ghost use Rattle.wave_sched.specs.Wheels.{Stands, wheel_ports};
 ghost use Rattle.vc_partition.specs.Lanes.{lane};
-ghost use Rattle.router_core.specs.Pulses.{pulse_at};
 ghost use Rattle.credit_links.specs.Counts.{count_at, with_count};
 ghost use Rattle.route_stage.specs.Routed.{stage_at};
 ghost use Rattle.vc_alloc.specs.Allocator.{best_at, held_at};
@@ -27,10 +26,10 @@ ghost use Rattle.router_core.specs.Asks.{HaveOutputs, AsksBelow, requested};
 ghost use Rattle.router_core.specs.Heads.{FrontsGo, placed, front_of};
 ghost use Rattle.router_core.specs.Sends.{ends, passed_parts, passed};
 ghost use Rattle.router_core.specs.Advance.{cycled};
-ghost use Rattle.router_core.specs.Ready.{IsReady, silent};
+ghost use Rattle.router_core.specs.Ready.{AreLawful, IsReady, silent};
 ghost use Rattle.router_core.specs.Crossing.{CanPass, CanSend, SendsBelow, laid, laid_at, sent_by, sent_parts, switched};
 ghost use Rattle.router_core.specs.Parts.{start_parts};
-ghost use Rattle.router_core.specs.Pulses.{no_pulses};
+ghost use Rattle.router_core.specs.Pulses.{ArePulses, no_pulses, pulse_at};
 ghost use Rattle.router_core.specs.Sizes.{HasBuffers, IsMade};
 ghost use Rattle.router_core.specs.Shown.{Shows, with_flit, with_credit};
 
@@ -142,7 +141,9 @@ impl Router {
         ensures wheel { IfOk result (λ router. Stands router.wheel plan.now tile 0) }
         ensures shows { IfOk result (λ router. (d : ℕ) → d < length plan.now.domains
             → Shows router plan.now d (start_tile plan.now)) }
+        ensures lawful { IfOk result (λ router. AreLawful plan.now router) }
     {
+        plan.known();
         let wheel = Wheel::new(alloc, plan, tile)?;
         let router = Router::with_wheel(alloc, plan, tile, wheel)?;
         Ok(router)
@@ -263,6 +264,7 @@ impl Router {
         ensures own { (s : Tile) → Shows self.old plan.now d s → Shows self.new plan.now d (silent s) }
         ensures others { (e : ℕ) (s : Tile) → e ≢ d → Shows self.old plan.now e s → Shows self.new plan.now e s }
         ensures made { IsMade self.new plan.now }
+        ensures pulses { ArePulses plan.now self.old.pulses → ArePulses plan.now self.new.pulses }
     {
         clear_ports(plan, d, &mut self.switch, &mut self.pulses);
     }
@@ -457,6 +459,7 @@ impl Router {
         ensures others { (e : ℕ) (s : Tile) → e ≢ d → Shows self.old plan.now e s → Shows self.new plan.now e s }
         ensures made { IsMade self.new plan.now }
         ensures quiet { (o : ℕ) → best_at self.new.allocator o ≡ None }
+        ensures pulses { ArePulses plan.now self.old.pulses → ArePulses plan.now self.new.pulses }
         ensures links { length links.new ≡ length links.old }
     {
         self.clear(plan, d);
@@ -514,6 +517,7 @@ impl Router {
         ensures rest { self.new ≡ cycled self.old self.new }
         ensures made { IsMade self.new plan.now }
         ensures quiet { (o : ℕ) → best_at self.new.allocator o ≡ None }
+        ensures pulses { ArePulses plan.now self.old.pulses → ArePulses plan.now self.new.pulses }
         ensures links { length out.new.links.items ≡ ports plan.now }
     {
         self.advance_links(plan, &mut out.links);
@@ -535,6 +539,7 @@ impl Router {
         ensures rest { self.new ≡ cycled self.old self.new }
         ensures made { IsMade self.new plan.now }
         ensures quiet { (o : ℕ) → best_at self.new.allocator o ≡ None }
+        ensures pulses { ArePulses plan.now self.old.pulses → ArePulses plan.now self.new.pulses }
         ensures links { length links.new ≡ length links.old }
     {
         empty_links(links);
@@ -570,6 +575,7 @@ impl Router {
         ensures others { (e : ℕ) (s : Tile) → e ≢ d → Shows self.old plan.now e s → Shows self.new plan.now e s }
         ensures made { IsMade self.new plan.now }
         ensures quiet { (o : ℕ) → best_at self.new.allocator o ≡ None }
+        ensures pulses { ArePulses plan.now self.old.pulses → ArePulses plan.now self.new.pulses }
         ensures links { length links.new ≡ length links.old }
     {
         let ready = self.ready(plan, d);

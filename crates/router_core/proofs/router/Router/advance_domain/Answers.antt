@@ -8,6 +8,7 @@ use Rattle.vc_alloc.specs.Allocator.{best_at}
 use Rattle.router_core.specs.Attachments.{told_at, outside}
 use Rattle.router_core.specs.Crossing.{laid, laid_at, flit_of, switched}
 use Rattle.router_core.specs.Parts.{Parts}
+use Rattle.router_core.specs.Pulses.{ArePulses}
 use Rattle.router_core.proofs.Advanced.{ports-some, lifted-other, eject-is, open-room, cycled-is, whole-step}
 use Rattle.router_core.proofs.router.Router.advance_domain.Goals as goal
 
@@ -63,3 +64,8 @@ returns-clause-quiet c = λ o. ap (λ (z : Parts). best_at z.allocator o) c.atta
 
 pub returns-clause-links : goal.returns-clause-links
 returns-clause-links c = c.move_flits.ensures.links ∙ ap length c.lift.ensures ∙ length-set c.args.links.now 0 None
+
+pub returns-clause-pulses : goal.returns-clause-pulses
+returns-clause-pulses c = λ are.
+    let P : Parts → Type 0 = λ r. ArePulses c.args.plan.now r.pulses in
+    subst P (sym c.attach.ensures.value) (c.move_flits.ensures.pulses are)

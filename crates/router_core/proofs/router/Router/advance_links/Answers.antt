@@ -22,5 +22,8 @@ loop-d-preserved c =
     let m = c.loop-d.d in
     let there : m < length c.args.plan.now.domains = let a = c.domains-d-end.ensures in omega (arith, a, c.loop-d-test.true) in
     advances-more m c.args.plan.now c.args.self.now c.loop-d.self c.advance_domain.new.self c.loop-d.links c.advance_domain.new.links c.loop-d.invariant (c.requires.ready m there)
-    c.advance_domain.ensures.rest c.advance_domain.ensures.made c.advance_domain.ensures.quiet c.advance_domain.ensures.links c.advance_domain.ensures.own c.advance_domain.ensures.sent
+    c.advance_domain.ensures.rest c.advance_domain.ensures.made c.advance_domain.ensures.quiet c.advance_domain.ensures.pulses c.advance_domain.ensures.links c.advance_domain.ensures.own c.advance_domain.ensures.sent
     c.advance_domain.ensures.others
+
+pub returns-clause-pulses : goal.returns-clause-pulses
+returns-clause-pulses c = c.loop-d.invariant.kept

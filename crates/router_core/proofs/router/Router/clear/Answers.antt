@@ -1,6 +1,7 @@
 use Rattle.std.proofs.Common.{◌≡◌, ◌∙◌, ℕ, sym, ap, subst}
 use Rattle.router_core.specs.contracts.router.Router.{the_view}
 use Rattle.router_core.specs.Parts.{Parts}
+use Rattle.router_core.specs.Pulses.{ArePulses}
 use Rattle.router_core.specs.Ready.{silent}
 use Rattle.router_core.specs.Sizes.{IsMade}
 use Rattle.router_core.specs.Shown.{Shows}
@@ -27,3 +28,8 @@ pub returns-clause-made : goal.returns-clause-made
 returns-clause-made c =
     let P : Parts → Type 0 = λ r. IsMade r c.args.plan.now in
     clear-made c.args.plan.now c.args.d (the_view c.self.inside) c.clear_ports.new.switch c.clear_ports.new.pulses c.clear_ports.ensures (subst P (sym c.self.view_is) c.requires.made)
+
+pub returns-clause-pulses : goal.returns-clause-pulses
+returns-clause-pulses c =
+    let P : Parts → Type 0 = λ r. ArePulses c.args.plan.now r.pulses → ArePulses c.args.plan.now c.clear_ports.new.pulses in
+    subst P c.self.view_is c.clear_ports.ensures.kept

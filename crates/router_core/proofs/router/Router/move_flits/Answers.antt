@@ -10,7 +10,7 @@ use Rattle.router_core.specs.Asks.{HaveOutputs}
 use Rattle.router_core.specs.Crossing.{CanSend, SendsBelow, laid, laid_at}
 use Rattle.router_core.specs.Heads.{FrontsGo, placed}
 use Rattle.router_core.specs.Parts.{Parts}
-use Rattle.router_core.specs.Ready.{silent}
+use Rattle.router_core.specs.Pulses.{ArePulses}
 use Rattle.router_core.proofs.Moving.{ready-outs, ready-fronts, ready-below, path2, path3, has-placed, is-sending, all-sent, all-flits, can-send, best-none}
 use Rattle.router_core.proofs.router.Router.move_flits.Goals as goal
 
@@ -111,3 +111,9 @@ returns-clause-quiet c = λ o.
     let made = c.place_heads.ensures.made in
     ap (λ l. get_or l o None) c.send_all.ensures.best
     ∙ best-none c.args.plan.now c.place_heads.new.self.allocator (made.allocator.domains c.args.d c.requires.domain).port_count c.place_heads.ensures.quiet o
+
+pub returns-clause-pulses : goal.returns-clause-pulses
+returns-clause-pulses c = λ are.
+    let P : Parts → Type 0 = λ r. ArePulses c.args.plan.now r.pulses in
+    let e = c.place_heads.ensures.rest ∙ ap (λ (z : Parts). let y : Parts = record z { allocator = c.place_heads.new.self.allocator; stages = c.place_heads.new.self.stages } in y) c.ask_all.ensures.rest in
+    c.send_all.ensures.kept (subst P (sym e) (c.clear.ensures.pulses are))
