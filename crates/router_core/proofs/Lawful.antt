@@ -110,3 +110,20 @@ all-told p r q ts value shows made lawful =
             holders = subst H (sym value) h.holders;
           };
     }
+
+pub all-next : (p : Plan) (r q z : Parts) → IsSound p → 0 < length p.domains → AreLawful p r → q ≡ cycled r q → z ≡ record q { wheel = z.wheel } → ((o : ℕ) → best_at q.allocator o ≡ None) → IsMade q p
+    → ((d : ℕ) (s : Tile) (t : ℕ) → d < length p.domains → Shows r p d s → Stands r.wheel p r.tile t → Shows q p d (tile_step p d r.tile (pos t) s (outside (told_at r.told d))))
+    → ((p : Plan) (n t : ℕ) → Stands q.wheel p n t → Stands z.wheel p n (t + 1)) → ((p : Plan) (d : ℕ) (s : Tile) → Shows q p d s → Shows z p d s)
+    → ((p : Plan) (n t : ℕ) → Stands q.wheel p n t → IsMade q p → IsMade z p) → AreLawful p z
+all-next p r q z sound some lawful rest ticked quiet made steps goes shows still =
+    let B : Parts → Type 0 = λ y. (o : ℕ) → best_at y.allocator o ≡ None in
+    let first = lawful.domains 0 some in
+    let F : Parts → Type 0 = λ y. Stands y.wheel p y.tile first.cycle in
+    record {
+      made = still p q.tile first.cycle (subst F (sym rest) first.stands) made;
+      quiet = subst B (sym ticked) quiet;
+      domains = λ d there.
+          let h = lawful.domains d there in
+          let W : Parts → Type 0 = λ y. Stands y.wheel p y.tile h.cycle in
+          lawful-next p d r q z sound h rest ticked (goes p q.tile h.cycle (subst W (sym rest) h.stands)) (shows p d _ (steps d h.tile h.cycle there h.shows h.stands));
+    }
