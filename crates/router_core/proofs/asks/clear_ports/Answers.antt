@@ -1,0 +1,9 @@
+use Rattle.std.proofs.Common.{◌≡◌, ◌∙◌, ◌+◌, ◌<◌, ◌≤◌, ℕ, List, Option, sym, ap, subst, arith}
+use Rattle.noc_model.specs.Plan.{ports}
+use Rattle.slot_switch.specs.Switch.{Switch}
+use Rattle.router_core.specs.Ready.{ClearBelow}
+use Rattle.router_core.proofs.Cleared.{clear-none, clear-more}
+use Rattle.router_core.proofs.asks.clear_ports.Goals as goal
+
+pub loop-port-init : goal.loop-port-init
+loop-port-init c = clear-none c.args.plan.now c.args.d c.args.switch.now c.args.pulses.now c.requires.switch c.requires.pulses

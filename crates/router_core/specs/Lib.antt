@@ -1,0 +1,13 @@
+pub mod Buffers
+pub mod Pulses
+pub mod Attachments
+pub mod Parts
+pub mod Sizes
+pub mod Shown
+pub mod Heads
+pub mod Asks
+pub mod Attach
+pub mod Sends
+pub mod Crossing
+pub mod Ready
+pub mod Advance
