@@ -41,7 +41,7 @@ pub record BufferIn (p : Plan) (d n port c : ℕ) (code : Flit
   pub push : v.net b.push ≡ one_if (is_filled (comes_in p d s i port c))
   pub word : (f : Flit) → comes_in p d s i port c ≡ f ∷ [] → v.net b.word ≡ code f
   pub pop : v.net b.pop ≡ one_if (leaves p d n t s i port c)
-  -- the conditions of a layer: a flit comes only where there is room
+  -- what a tile asks of its inputs: a flit comes only where there is room
   pub short : length (s.queue port c) ≤ p.buffer
   pub room : is_filled (comes_in p d s i port c) ≡ true → length (s.queue port c) < p.buffer
 

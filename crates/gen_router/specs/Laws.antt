@@ -133,7 +133,7 @@ CreditKept = (p : Plan) (d n o x : ℕ) (count : Name) (pulse on : Expr) (h : �
     → GroupKeeps (credit_group count pulse on h p.buffer) (λ w v u. (t : ℤ) (s : Tile) (i : TileIn)
     → CreditIn p d n o x count pulse on w v t s i → u.net count ≡ (tile_step p d n t s i).credits o x)
 
--- The widths of a rotating choice agree.
+-- The widths of a round-robin choice agree.
 abbrev pub RotateNetsFit : Type 0
 RotateNetsFit = (n : RotateNames) (h : ℕ) (w : Widths) → w.net n.request ≡ h + 1
     → AllDeclare w (rotate_group n h).heads → AllDeclare w (rotate_group n h).nets → AllFit w (rotate_group n h).nets

@@ -1,4 +1,5 @@
 //! Laws over the definitions.
+
 ghost use Rattle.gen_router.specs.Laws.{AllocKept, SlotKept, SlotShown, LeavingOwner, ArrivingOwner, BufferKept, ArrivalPushes, ReadyShown, TurnsKept, ChoicesKept, OnShown, FreedShown, LinkKept, IdleKept, CreditKept, RotateNetsFit, ClassNetsFit, OwnDrivers, InOrderTogether, LeavesShown, LeafKept, LeafRun, GroupsMove, GroupsRun, TextRun, OutsShown, SizesFit, CreditsShown};
 
 /// An edge keeps who waits for an output, who holds which channel, and the pointer, as a step has them.
@@ -76,7 +77,7 @@ pub fn credit_kept()
     ensures { CreditKept }
 {}
 
-/// The widths of a rotating choice agree.
+/// The widths of a round-robin choice agree.
 pub fn rotate_nets_fit()
     ensures { RotateNetsFit }
 {}
