@@ -71,7 +71,7 @@ module _ (all : List Line) (P : Name → Type 0) where
 
 -- ---- what does not depend on inputs
 
-depends-outside : (ns : List Name) (is : List Item) (m : Name) → is_assigned is m ≡ false → list_any (bytes_eq m) ns ≡ false → list_any (bytes_eq m) (all_depending ns (map item is)) ≡ false
+pub depends-outside : (ns : List Name) (is : List Item) (m : Name) → is_assigned is m ≡ false → list_any (bytes_eq m) ns ≡ false → list_any (bytes_eq m) (all_depending ns (map item is)) ≡ false
 depends-outside ns [] m f h = h
 depends-outside ns (wire x n ∷ is) m f h = depends-outside ns is m f h
 depends-outside ns (reg x n ∷ is) m f h = depends-outside ns is m f h
