@@ -119,7 +119,7 @@ pub fn fits_line(site: &Site, number: usize, line: &Line) -> bool
     fits(site, number, line)
 }
 
-// Whether a memory may have so many words.
+/// Whether a memory may have so many words.
 fn is_size(words: u64) -> bool
     ensures { result ≡ rules.is_size words }
 {

@@ -22,7 +22,7 @@ pub enum UseTest<'a> {
     Unfit(&'a Names<Entry>, usize),
 }
 
-// A width of 64 bits stands for all that are wider.
+/// A width of 64 bits stands for all that are wider.
 const MOST: u64 = 64;
 
 fn capped(width: u64) -> u64
