@@ -8,7 +8,7 @@ use Rattle.vl_model.specs.Settle.{settled, with_inputs}
 use Rattle.noc_model.specs.declared.Host.{Host}
 use Rattle.noc_model.specs.Plan.{Plan}
 use Rattle.gen_kit.specs.Ports.{top_ports, host_name}
-use Rattle.gen_kit.specs.PortSpec.{high_of, head_of, port_of}
+use Rattle.gen_kit.specs.PortSpec.{high_of, kind_head, port_of}
 use Rattle.gen_kit.specs.Replayed.{at}
 use Rattle.gen_kit.proofs.Listed.{port-at}
 use Rattle.vl_run.specs.Stands.{Running}

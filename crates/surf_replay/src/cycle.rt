@@ -3,7 +3,7 @@
 ghost use Rattle.std.specs.Prelude.{◌≡◌, ◌<◌, ◌≤◌, ◌^◌, ℕ, Some, length, slice_get, codes};
 ghost use Rattle.vl_model.specs.Whole.{Nets};
 ghost use Rattle.noc_model.specs.declared.Host.{Host};
-ghost use Rattle.gen_kit.specs.PortSpec.{head_of, high_of};
+ghost use Rattle.gen_kit.specs.PortSpec.{kind_head, high_of};
 ghost use Rattle.gen_kit.specs.Replayed.{at, is_on, ejected_at};
 ghost use Rattle.vl_run.specs.Running.{running};
 ghost use Rattle.surf_replay.specs.Cycle.{IsIn};
@@ -21,7 +21,7 @@ fn number(machine: &Machine, plan: &Plan, j: u32, kind: u32) -> u64
     requires output { 5 ≤ kind }
     requires kind { kind < 11 }
     ensures value { (nets : Nets) (h : Host) → IsIn (running machine.now) plan.now nets → slice_get plan.now.hosts j ≡ Some h
-        → result ≡ at nets (head_of kind) h }
+        → result ≡ at nets (kind_head kind) h }
     ensures small { (nets : Nets) (h : Host) → IsIn (running machine.now) plan.now nets → slice_get plan.now.hosts j ≡ Some h
         → result < 2 ^ 32 }
 {
