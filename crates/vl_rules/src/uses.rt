@@ -82,7 +82,8 @@ fn bits_in(es: &[Expr], table: &Names<Entry>, number: usize) -> u64
 /// Whether the memory has two to the index's width words.
 pub fn index_fits(table: &Names<Entry>, number: usize, memory: &[u8], index: &Expr) -> bool
     ensures { result
-        ≡ (2 ^ width_of (widths_at table.now number) (read index.now) == word_count (seen table.now number memory.now)) }
+        ≡ (2 ^ width_of (widths_at table.now number) (read index.now)
+        == word_count (seen table.now number memory.now)) }
 {
     let width = bits(index, table, number);
     let words = words(table, number, memory);
