@@ -35,7 +35,8 @@ some-counted : (o : Option ℕ) (k : ℕ) → at_some o (λ n. k) ≡ counted (i
 some-counted None k = refl
 some-counted (Some n) k = refl
 
-tiles-matched : (p : Plan) (port : ℕ) → AllPositive p.dims → AreMatched (tiles p) (tiles p) (λ n. neighbour p n port) (λ m. neighbour p m (opposite port))
+tiles-matched : (p : Plan) (port : ℕ) → AllPositive p.dims
+    → AreMatched (tiles p) (tiles p) (λ n. neighbour p n port) (λ m. neighbour p m (opposite port))
 tiles-matched p port positive = record {
   there = λ n m inside e. (neighbour-inside p n port m positive e, (link-from p n port m positive inside e).back);
   here = λ n m inside e. (neighbour-inside p m (opposite port) n positive e, back n m (link-from p m (opposite port) n positive inside e).back);
@@ -58,7 +59,8 @@ unfolding opposite
 opposite-below p zero below = below
 opposite-below p (suc k) below = go (k % 2) refl (omega arith)
   where
-    go : (r : ℕ) → k % 2 ≡ r → r < 2 → port_of (opposite_way (if r == 0 then Plus (k / 2) else Minus (k / 2))) < 1 + 2 * length p.dims
+    go : (r : ℕ) → k % 2 ≡ r → r < 2
+        → port_of (opposite_way (if r == 0 then Plus (k / 2) else Minus (k / 2))) < 1 + 2 * length p.dims
     go zero e h = omega arith
     go (suc zero) e h = omega arith
     go (suc (suc r)) e h = absurd (omega arith)
@@ -106,7 +108,8 @@ arrivals-last v p s positive =
 
 -- ---- one cycle
 
-whole : (p : Plan) (d n : ℕ) (t : ℤ) (s : State) (x : Input) → IsSound p → n < tiles p → IsReached p d t s → IsWhole p d n (s n) (fed p d s x n)
+whole : (p : Plan) (d n : ℕ) (t : ℤ) (s : State) (x : Input) → IsSound p → n < tiles p → IsReached p d t s
+    → IsWhole p d n (s n) (fed p d s x n)
 unfolding arrival
 whole p d n t s x sound inside reached = record {
   placed = placed p d t s reached n inside;
@@ -121,7 +124,8 @@ heard-weight : (v : Flit → ℕ) (p : Plan) (d : ℕ) (s : State) (x : Input) (
     → counted (hosts p n d) (counted (hosts p n d && x.hears n) (weight v (option_to_list (s n).ejected))) ≡ weight v (delivered_at p d s x n)
 heard-weight v p d s x n = go (hosts p n d) (x.hears n) ∙ sym (weight-there v (hosts p n d && x.hears n) (option_to_list (s n).ejected))
   where
-    go : (b c : Bool) → counted b (counted (b && c) (weight v (option_to_list (s n).ejected))) ≡ counted (b && c) (weight v (option_to_list (s n).ejected))
+    go : (b c : Bool)
+        → counted b (counted (b && c) (weight v (option_to_list (s n).ejected))) ≡ counted (b && c) (weight v (option_to_list (s n).ejected))
     go true c = refl
     go false c = refl
 
@@ -191,7 +195,8 @@ delivered-more v p d t s x xs =
 nothing-delivered : (v : Flit → ℕ) (p : Plan) (d t : ℕ) (s : State) → weight v (delivered p d t s []) ≡ 0
 nothing-delivered v p d t s = weight-gathered v (tiles p) (delivered_to p d t s []) ∙ total-none (tiles p) (λ n. 0) (λ n less. refl)
 
-pub conserved-from : (v : Flit → ℕ) (p : Plan) (d t : ℕ) (s : State) (xs : List Input) → IsSound p → IsReached p d (pos t) s
+pub conserved-from : (v : Flit → ℕ) (p : Plan) (d t : ℕ) (s : State) (xs : List Input) → IsSound p
+    → IsReached p d (pos t) s
     → weight v (inside p d s) + weight v (entered p d t s xs) ≡ weight v (delivered p d t s xs) + weight v (inside p d (state_from p d t s xs))
 conserved-from v p d t s [] sound reached = let none = nothing-delivered v p d t s in omega (arith, none)
 conserved-from v p d t s (x ∷ xs) sound reached =
@@ -204,7 +209,8 @@ conserved-from v p d t s (x ∷ xs) sound reached =
     (weight v (delivered p d t s (x ∷ xs))) (weight v (gathered (tiles p) (delivered_at p d s x))) (weight v (delivered p d (suc t) next xs))
     (weight v (inside p d next)) (weight v (inside p d (state_from p d (suc t) next xs))) one rest more in_all
   where
-    joined : (now all first later out out_first out_later next last : ℕ) → next + out_first ≡ now + first → next + later ≡ out_later + last → out ≡ out_first + out_later → all ≡ first + later
+    joined : (now all first later out out_first out_later next last : ℕ) → next + out_first ≡ now + first
+        → next + later ≡ out_later + last → out ≡ out_first + out_later → all ≡ first + later
         → now + all ≡ out + last
     joined now all first later out out_first out_later next last a b c e = omega arith
 

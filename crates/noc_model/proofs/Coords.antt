@@ -58,7 +58,8 @@ within-set (k ∷ ks) (c ∷ cs) zero x h below = (below, h.1)
 within-set (k ∷ ks) (c ∷ cs) (suc i) x h below = (h.0, within-set ks cs i x h.1 below)
 
 -- the sum, where one coordinate changes
-pub sum-set : (cs : List ℕ) (i x : ℕ) → i < length cs → sum_by (λ c. c) (slice_set cs i x) + slice_index cs i ≡ sum_by (λ c. c) cs + x
+pub sum-set : (cs : List ℕ) (i x : ℕ) → i < length cs
+    → sum_by (λ c. c) (slice_set cs i x) + slice_index cs i ≡ sum_by (λ c. c) cs + x
 sum-set cs i x h = sum_by-set (λ c. c) cs i x 0 h
 
 pub length-coords : (ks : List ℕ) (n : ℕ) → length (coords_in ks n) ≡ length ks
@@ -109,7 +110,8 @@ pub one-le-product : (ks : List ℕ) → AllPositive ks → 1 ≤ product ks
 one-le-product [] h = omega arith
 one-le-product (k ∷ ks) h = mul-le 1 1 k (product ks) h.0 (one-le-product ks h.1)
 
-pub product-take_more : (ks : List ℕ) (i : ℕ) → i < length ks → product (take (i + 1) ks) ≡ product (take i ks) * slice_index ks i
+pub product-take_more : (ks : List ℕ) (i : ℕ) → i < length ks
+    → product (take (i + 1) ks) ≡ product (take i ks) * slice_index ks i
 product-take_more [] i h = absurd (omega arith)
 product-take_more (k ∷ ks) zero h = omega arith
 product-take_more (k ∷ ks) (suc i) h =
@@ -122,7 +124,8 @@ product-take_le [] (suc i) h = omega arith
 product-take_le (k ∷ ks) (suc i) h = mul-le k (product (take i ks)) k (product ks) (omega arith) (product-take_le ks i h.1)
 
 -- a coordinate by one division and one remainder
-pub coords_in-at : (ks : List ℕ) (n i : ℕ) → i < length ks → slice_index (coords_in ks n) i ≡ n / product (take i ks) % slice_index ks i
+pub coords_in-at : (ks : List ℕ) (n i : ℕ) → i < length ks
+    → slice_index (coords_in ks n) i ≡ n / product (take i ks) % slice_index ks i
 coords_in-at [] n i h = absurd (omega arith)
 coords_in-at (k ∷ ks) n zero h = let one : n / 1 ≡ n = omega arith in rw one refl
 coords_in-at (k ∷ ks) n (suc i) h =

@@ -31,7 +31,8 @@ differ a b n = go (bytes_eq a b) refl
     go false e = e
 
 -- the answer of a search for the name
-pub domain_named-is : (p : Plan) (name : List ℕ) (r : Option ℕ) → IsSound p → IfSome r (λ d. (d < length p.domains) × (name_of p d ≡ name))
+pub domain_named-is : (p : Plan) (name : List ℕ) (r : Option ℕ) → IsSound p
+    → IfSome r (λ d. (d < length p.domains) × (name_of p d ≡ name))
     → IfNone r ((d : ℕ) → d < length p.domains → name_of p d ≢ name) → r ≡ domain_named p name
 domain_named-is p name (Some d) sound found absent =
     let test : DomainPart → Bool = λ x. bytes_eq x.name name in

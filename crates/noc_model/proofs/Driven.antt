@@ -40,7 +40,8 @@ events-last p d v (suc k) t u s states is =
 -- ---- the run is that of the inputs which the driver makes
 
 -- one input for each cycle
-pub inputs-length : (p : Plan) (d : ℕ) (v : Driver) (k t : ℕ) (s : State) (states : ℕ → List ℕ) → length (driven_inputs p d v k t s states) ≡ k
+pub inputs-length : (p : Plan) (d : ℕ) (v : Driver) (k t : ℕ) (s : State) (states : ℕ → List ℕ)
+    → length (driven_inputs p d v k t s states) ≡ k
 inputs-length p d v zero t s states = refl
 inputs-length p d v (suc k) t s states = omega (arith, inputs-length p d v k (suc t) (step p d (pos t) s (driven p d v states t)) (next_states p d v states t s))
 

@@ -90,7 +90,8 @@ hosted-among d k (h ∷ hs) = go (eqb h.domain d) refl (hosted-among d k hs)
     go false e rest = rw e (ap (λ b. b || list_any (is_host k d) hs) (and-false (eqb h.tile k)) ∙ rest)
 
 -- the tiles rise as the hosts do
-rises : (d a b : ℕ) (hs : List Host) → All (λ (h : Host). h.tile < b) hs → AllPairs IsBefore hs → All (λ (h : Host). h.domain ≡ d → a ≤ h.tile) hs
+rises : (d a b : ℕ) (hs : List Host) → All (λ (h : Host). h.tile < b) hs → AllPairs IsBefore hs
+    → All (λ (h : Host). h.domain ≡ d → a ≤ h.tile) hs
     → Rises a b (host_tiles d hs)
 rises d a b [] below ordered low = tt
 rises d a b (h ∷ hs) below ordered low =
@@ -124,7 +125,8 @@ hosts_of-tiles p d sound =
     (λ k more. hosted-among d k p.hosts)
 
 -- an earlier attachment comes before a later one
-pub host-before : (p : Plan) (i j : ℕ) (g h : Host) → IsSound p → slice_get p.hosts i ≡ Some g → slice_get p.hosts j ≡ Some h → i < j → IsBefore g h
+pub host-before : (p : Plan) (i j : ℕ) (g h : Host) → IsSound p → slice_get p.hosts i ≡ Some g
+    → slice_get p.hosts j ≡ Some h → i < j → IsBefore g h
 host-before p i j g h sound e f less =
     let within = slice_get_within p.hosts j h f in
     let a : get_or p.hosts i g ≡ g = get_or_from_slice_get p.hosts i g g e in
@@ -136,7 +138,8 @@ not-before g h tile domain (inl l) = omega arith
 not-before g h tile domain (inr r) = let l = r.1 in omega arith
 
 -- two attachments of one tile and domain are one
-pub host-unique : (p : Plan) (i j : ℕ) (g h : Host) → IsSound p → slice_get p.hosts i ≡ Some g → slice_get p.hosts j ≡ Some h
+pub host-unique : (p : Plan) (i j : ℕ) (g h : Host) → IsSound p → slice_get p.hosts i ≡ Some g
+    → slice_get p.hosts j ≡ Some h
     → g.tile ≡ h.tile → g.domain ≡ h.domain → i ≡ j
 host-unique p i j g h sound e f tile domain = go order
   where
@@ -179,13 +182,15 @@ not-attached p n d away = go (attach_of p n d) refl
     go (Some j) e = absurd (let some = list_any-position (is_host n d) p.hosts j (record { tile = n; domain = d }) e in cc)
 
 -- an attachment has its number
-pub number-is : (p : Plan) (j : ℕ) (h : Host) → IsSound p → slice_get p.hosts j ≡ Some h → attach_of p h.tile h.domain ≡ Some j
+pub number-is : (p : Plan) (j : ℕ) (h : Host) → IsSound p → slice_get p.hosts j ≡ Some h
+    → attach_of p h.tile h.domain ≡ Some j
 number-is p j h sound e =
     let has = attached p h.tile h.domain (host-hosted p j h e) in
     has.is ∙ ap Some (host-unique p has.number j (record { tile = h.tile; domain = h.domain }) h sound has.at e refl refl)
 
 -- the tile and the domain of an attachment are of the plan
-pub host-within : (p : Plan) (j : ℕ) (h : Host) → IsSound p → slice_get p.hosts j ≡ Some h → (h.tile < tiles p) × (h.domain < length p.domains)
+pub host-within : (p : Plan) (j : ℕ) (h : Host) → IsSound p → slice_get p.hosts j ≡ Some h
+    → (h.tile < tiles p) × (h.domain < length p.domains)
 host-within p j h sound e =
     subst (λ (x : Host). (x.tile < tiles p) × (x.domain < length p.domains)) (get_or_from_slice_get p.hosts j h h e)
     (sound.hosts j h (slice_get_within p.hosts j h e))

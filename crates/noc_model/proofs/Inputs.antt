@@ -30,7 +30,8 @@ channel-place p d port c below = mod-mul-add port (link_channels p d) c below
 pub place-input : (p : Plan) (d k : ℕ) → place p d (input_port p d k) (input_channel p d k) ≡ k
 place-input p d k = div-add-mod' k (link_channels p d)
 
-pub place-below : (p : Plan) (d port c : ℕ) → port < ports p → c < link_channels p d → place p d port c < input_count p d
+pub place-below : (p : Plan) (d port c : ℕ) → port < ports p → c < link_channels p d
+    → place p d port c < input_count p d
 place-below p d port c inside below = rw (mul_comm (ports p) (link_channels p d)) (mul-add-lt port (link_channels p d) c (ports p) inside below)
 
 -- there is a second factor where there is something below the product
@@ -45,7 +46,8 @@ pub channel-below : (p : Plan) (d k : ℕ) → k < input_count p d → input_cha
 channel-below p d k below = mod-lt k (some-factor (ports p) (link_channels p d) k below)
 
 -- places with one number are one place
-pub place-one : (p : Plan) (d port c port' c' : ℕ) → c < link_channels p d → c' < link_channels p d → place p d port c ≡ place p d port' c' → (port ≡ port') × (c ≡ c')
+pub place-one : (p : Plan) (d port c port' c' : ℕ) → c < link_channels p d → c' < link_channels p d
+    → place p d port c ≡ place p d port' c' → (port ≡ port') × (c ≡ c')
 place-one p d port c port' c' below below' e = (
   sym (port-place p d port c below) ∙ ap (input_port p d) e ∙ port-place p d port' c' below',
   sym (channel-place p d port c below) ∙ ap (input_channel p d) e ∙ channel-place p d port' c' below',
@@ -59,7 +61,8 @@ unpack-pack p d class j below = λ i. (div-mul-add class (channels p d) j below 
 pub pack-unpack : (p : Plan) (d w : ℕ) → pack p d (unpack p d w).0 (unpack p d w).1 ≡ w
 pack-unpack p d w = div-add-mod' w (channels p d)
 
-pub pack-below : (p : Plan) (d class j : ℕ) → class < classes p → j < channels p d → pack p d class j < link_channels p d
+pub pack-below : (p : Plan) (d class j : ℕ) → class < classes p → j < channels p d
+    → pack p d class j < link_channels p d
 pack-below p d class j low below = rw (mul_comm (classes p) (channels p d)) (mul-add-lt class (channels p d) j (classes p) low below)
 
 pub class-below : (p : Plan) (d w : ℕ) → w < link_channels p d → (unpack p d w).0 < classes p

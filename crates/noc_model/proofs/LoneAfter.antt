@@ -84,7 +84,8 @@ abbrev all_hear : ℕ → List Input → Bool
 all_hear n [] = true
 all_hear n (x ∷ xs) = x.hears n && all_hear n xs
 
-heard : (n : ℕ) (xs : List Input) → all_hear n xs ≡ true → (k : ℕ) (x : Input) → slice_get xs k ≡ Some x → x.hears n ≡ true
+heard : (n : ℕ) (xs : List Input) → all_hear n xs ≡ true → (k : ℕ) (x : Input) → slice_get xs k ≡ Some x
+    → x.hears n ≡ true
 heard n [] all k x at = absurd (cc at)
 heard n (y ∷ ys) all zero x at = let same : y ≡ x = cc at in ap (λ (z : Input). z.hears n) (sym same) ∙ and-first (y.hears n) (all_hear n ys) all
 heard n (y ∷ ys) all (suc k) x at = heard n ys (rest (y.hears n) all) k x at

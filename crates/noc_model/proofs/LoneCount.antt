@@ -29,7 +29,8 @@ pub record IsActive (p : Plan) (d : ℕ) (s : State) (f : Flit) (n o : ℕ) : Ty
   pub listed : IsListed p d s f n port channel (Active o to)
 
 -- over the places of a link
-shifts : (p : Plan) (d : ℕ) (xs : ℕ → Input) (f : Flit) (n o m w k j : ℕ) → j < p.stages → AreCalm p d xs k (k + j) → IsLinked p d (state_after p d xs k) f n o m w 0
+shifts : (p : Plan) (d : ℕ) (xs : ℕ → Input) (f : Flit) (n o m w k j : ℕ) → j < p.stages → AreCalm p d xs k (k + j)
+    → IsLinked p d (state_after p d xs k) f n o m w 0
     → IsLinked p d (state_after p d xs (k + j)) f n o m w j
 shifts p d xs f n o m w k zero below calm is = let e : k ≡ k + 0 = omega arith in subst (λ q. IsLinked p d (state_after p d xs q) f n o m w 0) e is
 shifts p d xs f n o m w k (suc j) below calm is =
@@ -39,7 +40,8 @@ shifts p d xs f n o m w k (suc j) below calm is =
     (linked-shifted p d (k + j) (state_after p d xs (k + j)) (xs (k + j)) f n o m w j (calm (k + j) (omega arith) (omega arith)) earlier below)
 
 -- a flit that comes into a list is given a channel two cycles later
-listed-active : (p : Plan) (d : ℕ) (xs : ℕ → Input) (f : Flit) (n port c k : ℕ) → AreCalm p d xs k (k + 2) → IsListed p d (state_after p d xs k) f n port c Idle
+listed-active : (p : Plan) (d : ℕ) (xs : ℕ → Input) (f : Flit) (n port c k : ℕ) → AreCalm p d xs k (k + 2)
+    → IsListed p d (state_after p d xs k) f n port c Idle
     → IsActive p d (state_after p d xs (suc (suc k))) f n (route p n f.dest)
 listed-active p d xs f n port c k calm is =
     let routed = idle-routed p d k (state_after p d xs k) (xs k) f n port c (calm k (omega arith) (omega arith)) is in
@@ -47,8 +49,10 @@ listed-active p d xs f n port c k calm is =
     record { port = port; channel = c; to = active.0; listed = active.1 }
 
 -- a hop from one link to the next
-hops : (p : Plan) (d : ℕ) (xs : ℕ → Input) (f : Flit) (n o m k : ℕ) → IsSound p → f.tail ≡ true → AreCalm p d xs k (k + hop p) → IsActive p d (state_after p d xs k) f n o
-    → neighbour p n o ≡ Some m → owner p n o (pos k) ≡ d → IsActive p d (state_after p d xs (k + hop p)) f m (route p m f.dest)
+hops : (p : Plan) (d : ℕ) (xs : ℕ → Input) (f : Flit) (n o m k : ℕ) → IsSound p → f.tail ≡ true
+    → AreCalm p d xs k (k + hop p) → IsActive p d (state_after p d xs k) f n o
+    → neighbour p n o ≡ Some m → owner p n o (pos k) ≡ d
+    → IsActive p d (state_after p d xs (k + hop p)) f m (route p m f.dest)
 hops p d xs f n o m k sound tail calm is link owned =
     let some = sound.stages.0 in
     let now : IsCalm p d k (state_after p d xs k) (xs k) = calm k (omega arith) (omega arith) in
@@ -67,7 +71,8 @@ record Waited (p : Plan) (d : ℕ) (xs : ℕ → Input) (f : Flit) (n o k a : �
   active : IsActive p d (state_after p d xs (k + cycles)) f n o
   owned : owner p n o (pos (k + cycles)) ≡ d
 
-waited : (p : Plan) (d : ℕ) (xs : ℕ → Input) (f : Flit) (n o k a : ℕ) → o ≢ 0 → owner p n o (pos (k + a)) ≡ d → AreCalm p d xs k (k + a) → IsActive p d (state_after p d xs k) f n o
+waited : (p : Plan) (d : ℕ) (xs : ℕ → Input) (f : Flit) (n o k a : ℕ) → o ≢ 0 → owner p n o (pos (k + a)) ≡ d
+    → AreCalm p d xs k (k + a) → IsActive p d (state_after p d xs k) f n o
     → Waited p d xs f n o k a
 waited p d xs f n o k zero link owned calm is =
     let e : k ≡ k + 0 = omega arith in
@@ -78,7 +83,9 @@ waited p d xs f n o k (suc a) link owned calm is =
     up : k + suc a ≡ suc k + a
     up = omega arith
 
-    go : (owner p n o (pos k) ≡ d) ⊎ (owner p n o (pos k) ≢ d) → (IsActive p d (state_after p d xs (suc k)) f n o → Waited p d xs f n o (suc k) a) → Waited p d xs f n o k (suc a)
+    go : (owner p n o (pos k) ≡ d) ⊎ (owner p n o (pos k) ≢ d)
+        → (IsActive p d (state_after p d xs (suc k)) f n o → Waited p d xs f n o (suc k) a)
+        → Waited p d xs f n o k (suc a)
     go (inl own) rest =
         let e : k ≡ k + 0 = omega arith in
         record { cycles = 0; few = omega arith; active = subst (λ q. IsActive p d (state_after p d xs q) f n o) e is; owned = subst (λ q. owner p n o (pos q) ≡ d) e own }
@@ -113,8 +120,10 @@ record Starts (p : Plan) (d : ℕ) (xs : ℕ → Input) (f : Flit) (n k left : �
   active : IsActive p d (state_after p d xs (k + cycles)) f n (route p n f.dest)
   owned : owner p n (route p n f.dest) (pos (k + cycles)) ≡ d
 
-starts : (p : Plan) (d : ℕ) (xs : ℕ → Input) (f : Flit) (n k left : ℕ) (ms : List ℕ) → IsSound p → d < length p.domains → route p n f.dest ≢ 0 → 1 ≤ waits p f.dest n ms
-    → AreCalm p d xs k (k + (length p.slots - 1) * left) → IsActive p d (state_after p d xs k) f n (route p n f.dest) → MayWait p d f.dest n k ms left
+starts : (p : Plan) (d : ℕ) (xs : ℕ → Input) (f : Flit) (n k left : ℕ) (ms : List ℕ) → IsSound p → d < length p.domains
+    → route p n f.dest ≢ 0 → 1 ≤ waits p f.dest n ms
+    → AreCalm p d xs k (k + (length p.slots - 1) * left) → IsActive p d (state_after p d xs k) f n (route p n f.dest)
+    → MayWait p d f.dest n k ms left
     → Starts p d xs f n k left ms
 starts p d xs f n k left ms sound there link some calm is (inr straight_on) =
     let e : k ≡ k + 0 = omega arith in
@@ -144,7 +153,8 @@ starts p d xs f n k left ms sound there link some calm is (inl fresh) =
     turn a x y e = omega (arith, ap (λ z. a * z) e)
 
 -- behind a link
-next-wait : (p : Plan) (d dest n m k next : ℕ) (ms : List ℕ) → IsSound p → neighbour p n (route p n dest) ≡ Some m → owner p n (route p n dest) (pos k) ≡ d
+next-wait : (p : Plan) (d dest n m k next : ℕ) (ms : List ℕ) → IsSound p → neighbour p n (route p n dest) ≡ Some m
+    → owner p n (route p n dest) (pos k) ≡ d
     → waits p dest n (m ∷ ms) ≤ next + 1 → MayWait p d dest m (k + hop p) ms next
 next-wait p d dest n m k next ms sound link owned few = go (hop-goes p n dest m (positive-sound p sound) link)
   where
@@ -161,7 +171,8 @@ next-wait p d dest n m k next ms sound link owned few = go (hop-goes p n dest m 
     go (ends low) = inl (omega (arith, few, low))
 
 -- a link leaves something to wait for
-some-waits : (p : Plan) (dest n m : ℕ) (ms : List ℕ) → IsSound p → neighbour p n (route p n dest) ≡ Some m → 1 ≤ waits p dest n (m ∷ ms)
+some-waits : (p : Plan) (dest n m : ℕ) (ms : List ℕ) → IsSound p → neighbour p n (route p n dest) ≡ Some m
+    → 1 ≤ waits p dest n (m ∷ ms)
 some-waits p dest n m ms sound link = go (hop-goes p n dest m (positive-sound p sound) link)
   where
     go : Goes p n dest m → 1 ≤ waits p dest n (m ∷ ms)
@@ -170,8 +181,10 @@ some-waits p dest n m ms sound link = go (hop-goes p n dest m (positive-sound p 
     go (ends low) = omega (arith, low)
 
 -- along the rest of the route
-pub along : (p : Plan) (d : ℕ) (xs : ℕ → Input) (f : Flit) (ms : List ℕ) (n k left : ℕ) → IsSound p → d < length p.domains → f.tail ≡ true → hosts p f.dest d ≡ true
-    → IsRoute p f.dest n ms → MayWait p d f.dest n k ms left → AreCalm p d xs k (k + 1 + hop p * length ms + (length p.slots - 1) * left)
+pub along : (p : Plan) (d : ℕ) (xs : ℕ → Input) (f : Flit) (ms : List ℕ) (n k left : ℕ) → IsSound p
+    → d < length p.domains → f.tail ≡ true → hosts p f.dest d ≡ true
+    → IsRoute p f.dest n ms → MayWait p d f.dest n k ms left
+    → AreCalm p d xs k (k + 1 + hop p * length ms + (length p.slots - 1) * left)
     → IsActive p d (state_after p d xs k) f n (route p n f.dest)
     → ComesHome p d xs f (k + 1 + hop p * length ms) (k + 1 + hop p * length ms + (length p.slots - 1) * left)
 along p d xs f [] n k left sound there tail hosted route_is may calm is =
@@ -201,7 +214,8 @@ along p d xs f (m ∷ ms) n k left sound there tail hosted route_is may calm is 
     }
 
 -- from its own list on
-pub comes-home : (p : Plan) (d : ℕ) (xs : ℕ → Input) (f : Flit) (ms : List ℕ) (n c k : ℕ) → IsSound p → d < length p.domains → f.tail ≡ true → hosts p f.dest d ≡ true
+pub comes-home : (p : Plan) (d : ℕ) (xs : ℕ → Input) (f : Flit) (ms : List ℕ) (n c k : ℕ) → IsSound p
+    → d < length p.domains → f.tail ≡ true → hosts p f.dest d ≡ true
     → IsRoute p f.dest n ms → AreCalm p d xs k (k + 3 + hop p * length ms + (length p.slots - 1) * waits p f.dest n ms)
     → IsListed p d (state_after p d xs k) f n 0 c Idle
     → ComesHome p d xs f (k + 3 + hop p * length ms) (k + 3 + hop p * length ms + (length p.slots - 1) * waits p f.dest n ms)

@@ -22,7 +22,8 @@ pub record IsReadyFor (p : Plan) (d n : ℕ) (t : ℤ) (s : Tile) (i : TileIn) (
   pub taken : takes p d n t s i g.out g.to ≡ true
 
 ready_queue : (p : Plan) (d n : ℕ) (t : ℤ) (s : Tile) (i : TileIn) (fs : List Flit) (st : Stage) (o w : ℕ)
-    → st ≡ Active o w → is_ready_at p d n t s i fs st ≡ true → (f : Flit) × (front fs ≡ Some f) × (takes p d n t s i o w ≡ true)
+    → st ≡ Active o w → is_ready_at p d n t s i fs st ≡ true
+    → (f : Flit) × (front fs ≡ Some f) × (takes p d n t s i o w ≡ true)
 ready_queue p d n t s i fs Idle o w e r = absurd (cc e)
 ready_queue p d n t s i fs (Routed o') o w e r = absurd (cc e)
 ready_queue p d n t s i [] (Active o' w') o w e r = absurd (cc r)
@@ -40,7 +41,8 @@ grant_at-is c (Active o w) g e =
     let is : record { channel = c; out = o; to = w } ≡ g = cc in
     (ap (λ (x : Grant). x.channel) (sym is), ap (λ (x : Grant). Active x.out x.to) is)
 
-pub then-is : {A B : Type 0} (f : A → Option B) (o : Option A) (y : B) → option_and_then f o ≡ Some y → (x : A) × (o ≡ Some x) × (f x ≡ Some y)
+pub then-is : {A B : Type 0} (f : A → Option B) (o : Option A) (y : B) → option_and_then f o ≡ Some y
+    → (x : A) × (o ≡ Some x) × (f x ≡ Some y)
 then-is f None y e = absurd (cc e)
 then-is f (Some x) y e = (x, refl, e)
 
@@ -88,7 +90,8 @@ pub leaves-front : (p : Plan) (d n : ℕ) (t : ℤ) (s : Tile) (i : TileIn) (por
 unfolding leaves
 leaves-front p d n t s i port c e = go (grant p d n t s i port) refl e
   where
-    go : (o : Option Grant) → grant p d n t s i port ≡ o → is_channel o c ≡ true → (f : Flit) × (front (s.queue port c) ≡ Some f)
+    go : (o : Option Grant) → grant p d n t s i port ≡ o → is_channel o c ≡ true
+        → (f : Flit) × (front (s.queue port c) ≡ Some f)
     go None is e = absurd (cc e)
     go (Some g) is e =
         let ready = grant-ready p d n t s i port g is in
@@ -132,7 +135,8 @@ granted-out p d n t s i o port g is_chosen is_granted =
     ap (λ (h : Grant). h.out) (sym one) ∙ asks.2
 
 -- an output picks a port that is there
-pub chosen-inside : (p : Plan) (d n : ℕ) (t : ℤ) (s : Tile) (i : TileIn) (o port : ℕ) → chosen p d n t s i o ≡ Some port → port < ports p
+pub chosen-inside : (p : Plan) (d n : ℕ) (t : ℤ) (s : Tile) (i : TileIn) (o port : ℕ) → chosen p d n t s i o ≡ Some port
+    → port < ports p
 unfolding chosen
 chosen-inside p d n t s i o port e = (pick-member (ports p) (λ k. asks_for (asked p d n t s i k) o) (s.switch o) port e).0
 

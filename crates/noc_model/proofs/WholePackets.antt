@@ -37,7 +37,8 @@ lead-first a b (f ∷ xs) ys all = let rest = lead-first (after_flit f) b xs ys 
 
 -- ---- outputs
 
-sent-from : (p : Plan) (d t : ℕ) (s : State) (g : ℕ → ℕ → ℕ → Option ℕ) (xs : List Input) (n o w : ℕ) → IsSound p → n < tiles p → IsReached p d (pos t) s → IsPacked p d s g
+sent-from : (p : Plan) (d t : ℕ) (s : State) (g : ℕ → ℕ → ℕ → Option ℕ) (xs : List Input) (n o w : ℕ) → IsSound p
+    → n < tiles p → IsReached p d (pos t) s → IsPacked p d s g
     → Lead (entry_at p d (s n) (g n) o w) (sent_on p d t s xs n o w)
 unfolding step
 sent-from p d t s g [] n o w sound inside reached packed = record { last = entry_at p d (s n) (g n) o w; packets = refl }
@@ -49,7 +50,8 @@ sent-from p d t s g (x ∷ xs) n o w sound inside reached packed =
     (sent-from p d (suc t) next (next_stands p d (pos t) s x g) xs n o w sound inside after (packed-next p d t s x g sound reached packed))
 
 -- what passes on a channel of an output
-pub sent-whole : (p : Plan) (d : ℕ) (xs : List Input) (n o w : ℕ) → IsSound p → d < length p.domains → n < tiles p → AreWholePackets (sent_on p d 0 (start p) xs n o w)
+pub sent-whole : (p : Plan) (d : ℕ) (xs : List Input) (n o w : ℕ) → IsSound p → d < length p.domains → n < tiles p
+    → AreWholePackets (sent_on p d 0 (start p) xs n o w)
 sent-whole p d xs n o w sound there inside =
     let reached = reached-start p d (pos 0) (some-channels p d sound there) in
     let lead = sent-from p d 0 (start p) nowhere xs n o w sound inside reached (packed-start p d reached) in
@@ -58,7 +60,8 @@ sent-whole p d xs n o w sound there inside =
 
 -- ---- local channels
 
-entered-from : (p : Plan) (d t : ℕ) (s : State) (xs : List Input) (n c : ℕ) → Lead (given (s n) c) (entered_by p d t s xs n c)
+entered-from : (p : Plan) (d t : ℕ) (s : State) (xs : List Input) (n c : ℕ)
+    → Lead (given (s n) c) (entered_by p d t s xs n c)
 unfolding step tile_step
 entered-from p d t s [] n c = record { last = given (s n) c; packets = refl }
 entered-from p d t s (x ∷ xs) n c =
@@ -82,7 +85,8 @@ entered-whole p d xs n c =
 -- ---- ejection places
 
 -- a flit goes to the ejection place on channel 0
-on-zero : (p : Plan) (d n : ℕ) (t : ℤ) (s : Tile) (i : TileIn) (x : LinkFlit) → ((port c : ℕ) → HasOutput p d n (s.stage port c)) → sent p d n t s i 0 ≡ Some x → x.channel ≡ 0
+on-zero : (p : Plan) (d n : ℕ) (t : ℤ) (s : Tile) (i : TileIn) (x : LinkFlit)
+    → ((port c : ℕ) → HasOutput p d n (s.stage port c)) → sent p d n t s i 0 ≡ Some x → x.channel ≡ 0
 on-zero p d n t s i x stages e =
     let by = sent-by p d n t s i 0 x e in
     let few = (subst (HasOutput p d n) (grant-ready p d n t s i by.port by.by by.granted).active (stages by.port by.by.channel)).1 in
@@ -93,7 +97,8 @@ on-zero p d n t s i x stages e =
     go (suc o) w c out to few = absurd (omega arith)
 
 -- the place gives its flit away, keeps it, or takes the new one
-place-next : (x : Option LinkFlit) (hears : Bool) (old : Option Flit) → ((y : LinkFlit) → x ≡ Some y → y.channel ≡ 0) → (is_some x ≡ true → (is_none old || hears) ≡ true)
+place-next : (x : Option LinkFlit) (hears : Bool) (old : Option Flit) → ((y : LinkFlit) → x ≡ Some y → y.channel ≡ 0)
+    → (is_some x ≡ true → (is_none old || hears) ≡ true)
     → option_to_list old ++ flit_on x 0 ≡ where_there hears (option_to_list old) ++ option_to_list (next_ejected x hears old)
 place-next None true None on_zero room = refl
 place-next None true (Some f) on_zero room = refl
@@ -107,7 +112,8 @@ place-next (Some x) hears old on_zero room = go hears old room
     one : flit_on (Some x) 0 ≡ x.flit ∷ []
     one = ap (λ b. if b then x.flit ∷ [] else []) on
 
-    go : (h : Bool) (o : Option Flit) → (true ≡ true → (is_none o || h) ≡ true) → option_to_list o ++ flit_on (Some x) 0 ≡ where_there h (option_to_list o) ++ x.flit ∷ []
+    go : (h : Bool) (o : Option Flit) → (true ≡ true → (is_none o || h) ≡ true)
+        → option_to_list o ++ flit_on (Some x) 0 ≡ where_there h (option_to_list o) ++ x.flit ∷ []
     go true o r = ap (λ fs. option_to_list o ++ fs) one
     go false None r = ap (λ fs. [] ++ fs) one
     go false (Some f) r = absurd (let bad = r refl in cc bad)
@@ -132,7 +138,8 @@ delivered-sent p d t s (x ∷ xs) n sound reached =
     sym (append_assoc old (flit_on new 0) later) ∙ ap (λ fs. fs ++ later) one ∙ append_assoc heard kept later ∙ ap (λ fs. heard ++ fs) rest ∙ sym (append_assoc heard out last)
 
 -- what is delivered at a tile
-pub delivered-whole : (p : Plan) (d : ℕ) (xs : List Input) (n : ℕ) → IsSound p → d < length p.domains → n < tiles p → AreWholePackets (delivered_to p d 0 (start p) xs n)
+pub delivered-whole : (p : Plan) (d : ℕ) (xs : List Input) (n : ℕ) → IsSound p → d < length p.domains → n < tiles p
+    → AreWholePackets (delivered_to p d 0 (start p) xs n)
 delivered-whole p d xs n sound there inside =
     let reached = reached-start p d (pos 0) (some-channels p d sound there) in
     let whole = sent-whole p d xs n 0 0 sound there inside in
