@@ -40,7 +40,8 @@ abbrev RightPiece : Option Piece → Type 0
 RightPiece None = Unit {0}
 RightPiece (Some p) = RightToken p.token
 
-one_right : (b : Bool) (x y : Option Piece) → (b ≡ true → RightPiece x) → (b ≡ false → RightPiece y) → RightPiece (cond b x y)
+one_right : (b : Bool) (x y : Option Piece) → (b ≡ true → RightPiece x) → (b ≡ false → RightPiece y)
+    → RightPiece (cond b x y)
 one_right true x y f g = f refl
 one_right false x y f g = g refl
 
@@ -135,7 +136,8 @@ piece_right (b ∷ bs) =
     (λ e. one_right (eqb b 47) (comment_at bs) (cond (is_run b) (run_at (run_of (b ∷ bs)) (after_run (b ∷ bs))) (symbol_at b bs)) (λ e. comment_right bs)
     (λ e. one_right (is_run b) (run_at (run_of (b ∷ bs)) (after_run (b ∷ bs))) (symbol_at b bs) (λ e. run_right (run_of (b ∷ bs)) (after_run (b ∷ bs))) (λ e. symbol_right b bs)))
 
-pieced_right : (o : Option Piece) (n : ℕ) (rest : ℕ → List Placed) → RightPiece o → ((k : ℕ) → AreTokens (text_of (rest k))) → AreTokens (text_of (pieced o n rest))
+pieced_right : (o : Option Piece) (n : ℕ) (rest : ℕ → List Placed) → RightPiece o
+    → ((k : ℕ) → AreTokens (text_of (rest k))) → AreTokens (text_of (pieced o n rest))
 pieced_right None n rest r h = tt
 pieced_right (Some p) n rest r h =
     elim p.token as (λ t. RightToken t → AreTokens (text_of (with_token t n (rest (p.len - 1))))) [
@@ -161,7 +163,8 @@ within_more : (m n : ℕ) (ts : List Placed) → m ≤ n → AreWithin m ts → 
 within_more m n [] l h = tt
 within_more m n (t ∷ ts) l h = (omega (arith, h.0), within_more m n ts l h.1)
 
-pieced_within : (o : Option Piece) (n : ℕ) (rest : ℕ → List Placed) → ((k : ℕ) → AreWithin n (rest k)) → AreWithin n (pieced o n rest)
+pieced_within : (o : Option Piece) (n : ℕ) (rest : ℕ → List Placed) → ((k : ℕ) → AreWithin n (rest k))
+    → AreWithin n (pieced o n rest)
 pieced_within None n rest h = tt
 pieced_within (Some p) n rest h =
     elim p.token as (λ t. AreWithin n (with_token t n (rest (p.len - 1)))) [ None ↦ h (p.len - 1) | Some t ↦ (omega arith, h (p.len - 1)) ]

@@ -198,7 +198,8 @@ abbrev clocked_rest : Item → List Token
 clocked_rest (clocked n r e) = name n ∷ (marks (codes "<=") ++ (const_token r ∷ (marks (codes "; else") ++ (name n ∷ (marks (codes "<=") ++ (expr_tokens e ++ marks (codes ";")))))))
 clocked_rest _ = []
 
-clocked_from : (y : Item) → IsClocked y → (x : ClockedOf) × ((Unit {0} × Unit {0}) × (Unit {0} × Fits limit x.1.1)) × (clocked_of x ≡ y)
+clocked_from : (y : Item) → IsClocked y
+    → (x : ClockedOf) × ((Unit {0} × Unit {0}) × (Unit {0} × Fits limit x.1.1)) × (clocked_of x ≡ y)
 clocked_from (clocked n r e) v = (((n, r), (tt, e)), ((tt, tt), (tt, v)), refl)
 clocked_from _ v = absurd v
 
@@ -226,7 +227,8 @@ StoreOf = Expr × (Name × (Expr × Expr))
 abbrev store_of : StoreOf → Item
 store_of x = store x.0 x.1.0 x.1.1.0 x.1.1.1
 
-store_from : (y : Item) → IsStore y → (x : StoreOf) × (Fits limit x.0 × (Unit {0} × (Fits limit x.1.1.0 × Fits limit x.1.1.1))) × (store_of x ≡ y)
+store_from : (y : Item) → IsStore y
+    → (x : StoreOf) × (Fits limit x.0 × (Unit {0} × (Fits limit x.1.1.0 × Fits limit x.1.1.1))) × (store_of x ≡ y)
 store_from (store c n i e) v = ((c, (n, (i, e))), (v.0, (tt, (v.1, v.2))), refl)
 store_from _ v = absurd v
 
@@ -277,7 +279,8 @@ always_split (clocked n r e) v = inl v
 always_split (store c n i e) v = inr v
 always_split _ v = absurd v
 
-always_spelled : (x : Item) → IsAlways x → item_tokens x ≡ marks (codes "always @ ( posedge clk ) if (") ++ always_tokens x
+always_spelled : (x : Item) → IsAlways x
+    → item_tokens x ≡ marks (codes "always @ ( posedge clk ) if (") ++ always_tokens x
 always_spelled (clocked n r e) v = refl
 always_spelled (store c n i e) v = refl
 always_spelled _ v = absurd v
@@ -509,7 +512,8 @@ InstanceOf = Name × (Name × (List Join × Unit {0}))
 abbrev instance_of : InstanceOf → TopItem
 instance_of x = Instance x.0 x.1.0 x.1.1.0
 
-instance_from : (y : TopItem) → IsInstance y → (x : InstanceOf) × (Unit {0} × (Unit {0} × (AllByRecursion all_values x.1.1.0 × Unit {0}))) × (instance_of x ≡ y)
+instance_from : (y : TopItem) → IsInstance y
+    → (x : InstanceOf) × (Unit {0} × (Unit {0} × (AllByRecursion all_values x.1.1.0 × Unit {0}))) × (instance_of x ≡ y)
 instance_from (Wire h n) v = absurd v
 instance_from (Instance l n joins) v = ((l, (n, (joins, tt))), (tt, (tt, (all_true joins, tt))), refl)
 
@@ -592,7 +596,8 @@ abbrev modules_rest : Design → List Token
 modules_rest d = each leaf_rest d.leaves ++ noc_rest d.top
 
 -- the word module of each leaf but the first stands with the leaf before it
-shifted : (ls : List values.Leaf) (t : Top) → mark (codes "module") ∷ (each leaf_rest ls ++ noc_rest t) ≡ each leaf_tokens ls ++ top_tokens t
+shifted : (ls : List values.Leaf) (t : Top)
+    → mark (codes "module") ∷ (each leaf_rest ls ++ noc_rest t) ≡ each leaf_tokens ls ++ top_tokens t
 shifted [] t = refl
 shifted (l ∷ ls) t =
     let more = shifted ls t in

@@ -96,7 +96,8 @@ less d = omega arith
 means_behind : (a b : Bool) (P : Type 0) → a ≡ true → Means b P → Means (a && b) P
 means_behind a b P e m = record { to = λ h. m.to (and_true a b h).1; from = λ h. two_true a b e (m.from h) }
 
-pair_same : (d : ℕ) (e : Expr) (k : ℕ) → k ≡ d → Means (plain_expr d e) (PlainExpr d e) → Means (plain_expr k e) (PlainExpr d e)
+pair_same : (d : ℕ) (e : Expr) (k : ℕ) → k ≡ d → Means (plain_expr d e) (PlainExpr d e)
+    → Means (plain_expr k e) (PlainExpr d e)
 pair_same d e k is m = subst (λ x. Means (plain_expr x e) (PlainExpr d e)) (sym is) m
 
 mutual
@@ -222,7 +223,9 @@ means_item (store c n i e) =
     ((((right_front (expr_tokens c) rest q, k.1.0), q1.1.0), (right_front (expr_tokens i) (marks (codes "] <=") ++ last) q2, k.1.1)), (closed_front e q3.1.1, k.1.2)))
 
 -- the same of each in a list, with what is spelled of each
-means_each : {A : Type 0} (test : A → Bool) (s : A → List Token) (V : A → Type 0) → ((x : A) → Means (test x) (AreTokens (s x) × V x)) → (xs : List A) → Means (list_all test xs) (AreTokens (each s xs) × AllByRecursion V xs)
+means_each : {A : Type 0} (test : A → Bool) (s : A → List Token) (V : A → Type 0)
+    → ((x : A) → Means (test x) (AreTokens (s x) × V x)) → (xs : List A)
+    → Means (list_all test xs) (AreTokens (each s xs) × AllByRecursion V xs)
 means_each test s V one [] = record { to = λ e. (tt, tt); from = λ h. refl }
 means_each test s V one (x ∷ xs) =
     means_same (test x && list_all test xs) ((AreTokens (s x) × V x) × (AreTokens (each s xs) × AllByRecursion V xs)) (AreTokens (each s (x ∷ xs)) × AllByRecursion V (x ∷ xs))

@@ -38,14 +38,16 @@ all_append p (x ∷ a) b e f =
     let h : p x ≡ true = k.0 in
     rw h (all_append p a b k.1 f)
 
-pub says_then : {C D : List ℕ → Type 0} {a b : List ℕ} {s t : List Token} → Says C a s → Says D b t → ((rest : List ℕ) → D rest → C (b ++ rest)) → Says D (a ++ b) (s ++ t)
+pub says_then : {C D : List ℕ → Type 0} {a b : List ℕ} {s t : List Token} → Says C a s → Says D b t
+    → ((rest : List ℕ) → D rest → C (b ++ rest)) → Says D (a ++ b) (s ++ t)
 says_then {C} {D} {a} {b} {s} {t} p q follows = record {
   clean = all_append is_text_byte a b p.clean q.clean;
   reads = λ rest d. ap (λ bs. text_of (tokens_of bs)) (append_assoc a b rest) ∙ p.reads (b ++ rest) (follows rest d) ∙ ap (λ ts. s ++ ts) (q.reads rest d) ∙ sym (append_assoc s t (text_of (tokens_of rest)));
   whole = λ rest d. ap unread (append_assoc a b rest) ∙ p.whole (b ++ rest) (follows rest d) ∙ q.whole rest d;
 }
 
-pub any_then : {D : List ℕ → Type 0} {a b : List ℕ} {s t : List Token} → Says Any a s → Says D b t → Says D (a ++ b) (s ++ t)
+pub any_then : {D : List ℕ → Type 0} {a b : List ℕ} {s t : List Token} → Says Any a s → Says D b t
+    → Says D (a ++ b) (s ++ t)
 any_then p q = says_then p q (λ rest d. tt)
 
 -- begins with a byte that may follow a name
@@ -57,7 +59,8 @@ starts_open : (b rest : List ℕ) → Starts b → Open (b ++ rest)
 starts_open [] rest s = absurd s
 starts_open (c ∷ cs) rest s = s
 
-pub open_then : {D : List ℕ → Type 0} {a b : List ℕ} {s t : List Token} → Says Open a s → Starts b → Says D b t → Says D (a ++ b) (s ++ t)
+pub open_then : {D : List ℕ → Type 0} {a b : List ℕ} {s t : List Token} → Says Open a s → Starts b → Says D b t
+    → Says D (a ++ b) (s ++ t)
 open_then {b = b} p s q = says_then p q (λ rest d. starts_open b rest s)
 
 pub loosen : {a : List ℕ} {s : List Token} → Says Any a s → Says Open a s
@@ -80,7 +83,8 @@ unread_drop (suc k) (b ∷ bs) = unread_drop k bs
 drop_front : (a rest : List ℕ) → drop (length a) (a ++ rest) ≡ rest
 drop_front a rest = drop_at a rest (length a) refl
 
-pub piece_says : (C : List ℕ → Type 0) (b : ℕ) (bs : List ℕ) (t : Token) → list_all is_text_byte (b ∷ bs) ≡ true → ((rest : List ℕ) → C rest → piece_at (b ∷ (bs ++ rest)) ≡ piece t (length bs + 1)) → Says C (b ∷ bs) (t ∷ [])
+pub piece_says : (C : List ℕ → Type 0) (b : ℕ) (bs : List ℕ) (t : Token) → list_all is_text_byte (b ∷ bs) ≡ true
+    → ((rest : List ℕ) → C rest → piece_at (b ∷ (bs ++ rest)) ≡ piece t (length bs + 1)) → Says C (b ∷ bs) (t ∷ [])
 unfolding tokens_behind unread_behind
 piece_says C b bs t clean is =
     let back : length bs + 1 - 1 ≡ length bs = omega arith in
@@ -112,7 +116,8 @@ letter_at b e = (grind (arith, nat_tests), grind (arith, nat_tests), grind (arit
 digit_range : (d : ℕ) → digit_value d < 10 → (48 ≤ d) × (d ≤ 57)
 digit_range d h = (grind (arith, nat_tests), grind (arith, nat_tests))
 
-digit_at : (d : ℕ) → digit_value d < 10 → (is_blank d ≡ false) × (eqb d 47 ≡ false) × (is_text_byte d ≡ true) × (is_run d ≡ true) × (is_letter d ≡ false)
+digit_at : (d : ℕ) → digit_value d < 10
+    → (is_blank d ≡ false) × (eqb d 47 ≡ false) × (is_text_byte d ≡ true) × (is_run d ≡ true) × (is_letter d ≡ false)
 digit_at d h =
     let r = digit_range d h in
     (grind (arith, nat_tests), grind (arith, nat_tests), grind (arith, nat_tests), grind (arith, nat_tests), grind (arith, nat_tests))
@@ -148,7 +153,8 @@ no_quote [] o = refl
 no_quote (c ∷ cs) o = (open_not_run c o).1
 
 -- what holds of each of these texts holds of one that is among them
-among : (r : List ℕ) (ws : List (List ℕ)) (P : List ℕ → Type 0) → AllByRecursion P ws → list_any (bytes_eq r) ws ≡ true → P r
+among : (r : List ℕ) (ws : List (List ℕ)) (P : List ℕ → Type 0) → AllByRecursion P ws → list_any (bytes_eq r) ws ≡ true
+    → P r
 among r [] P all e = absurd cc
 among r (w ∷ ws) P all e =
     elim (bytes_eq r w) as (λ t. bytes_eq r w ≡ t → (t || list_any (bytes_eq r) ws) ≡ true → P r) [
@@ -179,10 +185,12 @@ name_runs b bs e =
     let k1 = and_true (list_all is_run bs) (ltb (length bs) 64) k2.0 in
     (k4.0, k1.0)
 
-third : (x y z : Bool) (p q r s : Option Piece) → x ≡ false → y ≡ false → z ≡ true → cond x p (cond y q (cond z r s)) ≡ r
+third : (x y z : Bool) (p q r s : Option Piece) → x ≡ false → y ≡ false → z ≡ true
+    → cond x p (cond y q (cond z r s)) ≡ r
 third x y z p q r s e f g = rw (e, f, g) refl
 
-run_piece : (b : ℕ) (bs rest : List ℕ) → is_blank b ≡ false → eqb b 47 ≡ false → list_all is_run (b ∷ bs) ≡ true → Open rest → piece_at (b ∷ (bs ++ rest)) ≡ run_at (b ∷ bs) rest
+run_piece : (b : ℕ) (bs rest : List ℕ) → is_blank b ≡ false → eqb b 47 ≡ false → list_all is_run (b ∷ bs) ≡ true
+    → Open rest → piece_at (b ∷ (bs ++ rest)) ≡ run_at (b ∷ bs) rest
 unfolding piece_at
 run_piece b bs rest blank slash runs o =
     let r = (and_true (is_run b) (list_all is_run bs) runs).0 in
@@ -219,13 +227,15 @@ digits_runs (d ∷ ds) h =
 no_name : (d : ℕ) (ds : List ℕ) → is_letter d ≡ false → is_name (d ∷ ds) ≡ false
 no_name d ds e = rw e refl
 
-fourth : (w n q v : Bool) (a b c d e : Option Piece) → w ≡ false → n ≡ false → q ≡ false → v ≡ true → cond w a (cond n b (cond q c (cond v d e))) ≡ d
+fourth : (w n q v : Bool) (a b c d e : Option Piece) → w ≡ false → n ≡ false → q ≡ false → v ≡ true
+    → cond w a (cond n b (cond q c (cond v d e))) ≡ d
 fourth w n q v a b c d e f g h i = rw (f, g, h, i) refl
 
 three : (a b c : Bool) → a ≡ true → b ≡ true → c ≡ true → (a && b && c) ≡ true
 three a b c e f g = rw (e, f, g) refl
 
-plain_says_of : (ds : List ℕ) (v : ℕ) → 0 < length ds → length ds ≤ 9 → AllDigits 10 ds → digits_value 10 ds ≡ v → Says Open ds (plain v ∷ [])
+plain_says_of : (ds : List ℕ) (v : ℕ) → 0 < length ds → length ds ≤ 9 → AllDigits 10 ds → digits_value 10 ds ≡ v
+    → Says Open ds (plain v ∷ [])
 plain_says_of [] v some short all is = absurd (omega arith)
 plain_says_of (d ∷ ds) v some short all is =
     let k = digit_at d all.0 in
@@ -249,7 +259,8 @@ plain_says v small =
 
 -- ---- constants
 
-fifth : (w n q : Bool) (a b c d : Option Piece) → w ≡ false → n ≡ false → q ≡ true → cond w a (cond n b (cond q c d)) ≡ c
+fifth : (w n q : Bool) (a b c d : Option Piece) → w ≡ false → n ≡ false → q ≡ true
+    → cond w a (cond n b (cond q c d)) ≡ c
 fifth w n q a b c d f g h = rw (f, g, h) refl
 
 sized_is : (b : Bool) (p : Option Piece) → b ≡ true → cond b p None ≡ p
@@ -258,7 +269,8 @@ sized_is b p e = rw e refl
 two_true : (a b : Bool) → a ≡ true → b ≡ true → (a && b) ≡ true
 two_true a b e f = rw (e, f) refl
 
-width_is : (ds : List ℕ) → AllDigits 10 ds → 0 < length ds → length ds ≤ 2 → 48 < get_or ds 0 0 → digits_value 10 ds ≤ 64 → is_width ds ≡ true
+width_is : (ds : List ℕ) → AllDigits 10 ds → 0 < length ds → length ds ≤ 2 → 48 < get_or ds 0 0
+    → digits_value 10 ds ≤ 64 → is_width ds ≡ true
 width_is [] all some short first small = absurd (omega arith)
 width_is (d ∷ ds) all some short first small =
     let r = (digits_runs (d ∷ ds) all).1 in
@@ -269,13 +281,15 @@ width_is (d ∷ ds) all some short first small =
     (lt-ltb (length (d ∷ ds)) 3 (omega arith)))
     (le-leb (digits_value 10 (d ∷ ds)) 64 small)
 
-value_is : (w : ℕ) (ds : List ℕ) → AllDigits 10 ds → 0 < length ds → length ds ≤ 20 → digits_value 10 ds < 2 ^ w → is_value w 10 ds ≡ true
+value_is : (w : ℕ) (ds : List ℕ) → AllDigits 10 ds → 0 < length ds → length ds ≤ 20 → digits_value 10 ds < 2 ^ w
+    → is_value w 10 ds ≡ true
 value_is w ds all some short small =
     two_true (all_digits 10 ds && ltb 0 (length ds) && ltb (length ds) 65) (ltb (digits_value 10 ds) (2 ^ w))
     (two_true (all_digits 10 ds && ltb 0 (length ds)) (ltb (length ds) 65) (two_true (all_digits 10 ds) (ltb 0 (length ds)) (digits_runs ds all).1 (lt-ltb 0 (length ds) some)) (lt-ltb (length ds) 65 (omega arith)))
     (lt-ltb (digits_value 10 ds) (2 ^ w) small)
 
-sized_piece : (ws ds rest : List ℕ) → is_width ws ≡ true → is_value (digits_value 10 ws) 10 ds ≡ true → sized_at ws (100 ∷ ds) rest ≡ piece (sized (digits_value 10 ws) (digits_value 10 ds)) (length ws + length ds + 2)
+sized_piece : (ws ds rest : List ℕ) → is_width ws ≡ true → is_value (digits_value 10 ws) 10 ds ≡ true
+    → sized_at ws (100 ∷ ds) rest ≡ piece (sized (digits_value 10 ws) (digits_value 10 ds)) (length ws + length ds + 2)
 sized_piece ws ds rest w v =
     sized_is (is_width ws && is_value (digits_value 10 ws) 10 ds && true) (piece (sized (digits_value 10 ws) (digits_value 10 ds)) (length ws + length ds + 2))
     (two_true (is_width ws && is_value (digits_value 10 ws) 10 ds) true (two_true (is_width ws) (is_value (digits_value 10 ws) 10 ds) w v) refl)
@@ -288,7 +302,8 @@ run_quote (x ∷ a) rest e =
     let h = k.0 in
     take_while-cons is_run x (a ++ (39 ∷ rest)) ∙ rw h (ap (λ bs. x ∷ bs) (run_quote a rest k.1))
 
-quoted_piece : (b : ℕ) (bs rest : List ℕ) → is_blank b ≡ false → eqb b 47 ≡ false → list_all is_run (b ∷ bs) ≡ true → piece_at (b ∷ (bs ++ (39 ∷ rest))) ≡ run_at (b ∷ bs) (39 ∷ rest)
+quoted_piece : (b : ℕ) (bs rest : List ℕ) → is_blank b ≡ false → eqb b 47 ≡ false → list_all is_run (b ∷ bs) ≡ true
+    → piece_at (b ∷ (bs ++ (39 ∷ rest))) ≡ run_at (b ∷ bs) (39 ∷ rest)
 unfolding piece_at
 quoted_piece b bs rest blank slash runs =
     let r = (and_true (is_run b) (list_all is_run bs) runs).0 in
@@ -297,7 +312,9 @@ quoted_piece b bs rest blank slash runs =
     third (is_blank b) (eqb b 47) (is_run b) (Some (gap 1)) (comment_at (bs ++ (39 ∷ rest))) (run_at (run_of (b ∷ (bs ++ (39 ∷ rest)))) (after_run (b ∷ (bs ++ (39 ∷ rest))))) (symbol_at b (bs ++ (39 ∷ rest))) blank slash r
     ∙ ap (λ x. run_at x (after_run (b ∷ (bs ++ (39 ∷ rest))))) front ∙ ap (run_at (b ∷ bs)) after
 
-sized_says_of : (ws ds : List ℕ) → AllDigits 10 ws → 0 < length ws → AllDigits 10 ds → is_width ws ≡ true → is_value (digits_value 10 ws) 10 ds ≡ true → Says Open (ws ++ (39 ∷ (100 ∷ ds))) (sized (digits_value 10 ws) (digits_value 10 ds) ∷ [])
+sized_says_of : (ws ds : List ℕ) → AllDigits 10 ws → 0 < length ws → AllDigits 10 ds → is_width ws ≡ true
+    → is_value (digits_value 10 ws) 10 ds ≡ true
+    → Says Open (ws ++ (39 ∷ (100 ∷ ds))) (sized (digits_value 10 ws) (digits_value 10 ds) ∷ [])
 sized_says_of [] ds allw some alld width value = absurd (omega arith)
 sized_says_of (d ∷ ws) ds allw some alld width value =
     let k = digit_at d allw.0 in
@@ -317,7 +334,8 @@ sized_says_of (d ∷ ws) ds allw some alld width value =
     ∙ ap (λ x. sized_at (d ∷ ws) x (after_run (100 ∷ (ds ++ rest)))) front ∙ ap (sized_at (d ∷ ws) (100 ∷ ds)) last
     ∙ sized_piece (d ∷ ws) ds rest width value ∙ ap (piece (sized (digits_value 10 (d ∷ ws)) (digits_value 10 ds))) count)
 
-pub sized_says : (w v : ℕ) → 0 < w → w ≤ 64 → v < 2 ^ w → v < 2 ^ 64 → Says Open (decimal w ++ (codes "'d" ++ decimal v)) (sized w v ∷ [])
+pub sized_says : (w v : ℕ) → 0 < w → w ≤ 64 → v < 2 ^ w → v < 2 ^ 64
+    → Says Open (decimal w ++ (codes "'d" ++ decimal v)) (sized w v ∷ [])
 sized_says w v pos small value wide =
     let ww : w < 2 ^ 64 = omega arith in
     let nw = decimal_is_IsNumeral w ww in
@@ -335,7 +353,8 @@ sized_says w v pos small value wide =
 worded : (w : Bool) (p q : Option Piece) → w ≡ true → cond w p q ≡ p
 worded w p q e = rw e refl
 
-pub word_says : (b : ℕ) (bs : List ℕ) → is_word (b ∷ bs) ≡ true → is_blank b ≡ false → eqb b 47 ≡ false → list_all is_run (b ∷ bs) ≡ true → Says Open (b ∷ bs) (mark (b ∷ bs) ∷ [])
+pub word_says : (b : ℕ) (bs : List ℕ) → is_word (b ∷ bs) ≡ true → is_blank b ≡ false → eqb b 47 ≡ false
+    → list_all is_run (b ∷ bs) ≡ true → Says Open (b ∷ bs) (mark (b ∷ bs) ∷ [])
 word_says b bs word blank slash runs =
     let count : length (b ∷ bs) ≡ length bs + 1 = omega arith in
     piece_says Open b bs (mark (b ∷ bs)) (runs_text (b ∷ bs) runs) (λ rest o.

@@ -264,10 +264,12 @@ mutual
 
 -- ---- items
 
-ended_says : (e : Expr) → AreTokens (expr_tokens e ++ marks (codes ";")) → Says Any (expr_text e ++ codes ";\n") (expr_tokens e ++ marks (codes ";"))
+ended_says : (e : Expr) → AreTokens (expr_tokens e ++ marks (codes ";"))
+    → Says Any (expr_text e ++ codes ";\n") (expr_tokens e ++ marks (codes ";"))
 ended_says e r = open_then (expr_says e (right_front (expr_tokens e) (marks (codes ";")) r)) refl lit_semi
 
-ranged_says : (h : ℕ) (n : Name) → h < 10 ^ 9 → IsToken (name n) → Says Open (ranged_text h n) (range_tokens h ++ (name n ∷ []))
+ranged_says : (h : ℕ) (n : Name) → h < 10 ^ 9 → IsToken (name n)
+    → Says Open (ranged_text h n) (range_tokens h ++ (name n ∷ []))
 ranged_says h n small right = any_then lit_bracket (open_then (plain_says h small) refl (any_then lit_range (name_says n right)))
 
 item_says : (x : Item) → AreTokens (item_tokens x) → Says Any (item_text x) (item_tokens x)
@@ -295,7 +297,8 @@ item_says (store c n i e) r =
 nothing_says : Says Any [] []
 nothing_says = record { clean = refl; reads = λ rest u. refl; whole = λ rest u. refl }
 
-each_says : {A : Type 0} (f : A → List ℕ) (s : A → List Token) → ((x : A) → AreTokens (s x) → Says Any (f x) (s x)) → (xs : List A) → AreTokens (each s xs) → Says Any (each_text f xs) (each s xs)
+each_says : {A : Type 0} (f : A → List ℕ) (s : A → List Token) → ((x : A) → AreTokens (s x) → Says Any (f x) (s x))
+    → (xs : List A) → AreTokens (each s xs) → Says Any (each_text f xs) (each s xs)
 each_says f s one [] r = nothing_says
 each_says f s one (x ∷ xs) r = any_then (one x (right_front (s x) (each s xs) r)) (each_says f s one xs (right_rest (s x) (each s xs) r))
 
@@ -313,7 +316,8 @@ ports_start : (ps : List Port) → Starts (each_text port_text ps ++ codes "\n);
 ports_start [] = refl
 ports_start (p ∷ ps) = subst Starts (sym (append_assoc (port_text p) (each_text port_text ps) (codes "\n);\n"))) (port_starts p (each_text port_text ps ++ codes "\n);\n"))
 
-ports_says : (ps : List Port) → AreTokens (each port_tokens ps ++ marks (codes ") ;")) → Says Any (each_text port_text ps ++ codes "\n);\n") (each port_tokens ps ++ marks (codes ") ;"))
+ports_says : (ps : List Port) → AreTokens (each port_tokens ps ++ marks (codes ") ;"))
+    → Says Any (each_text port_text ps ++ codes "\n);\n") (each port_tokens ps ++ marks (codes ") ;"))
 ports_says [] r = lit_head_end
 ports_says (p ∷ ps) r =
     let whole = subst AreTokens (append_assoc (port_tokens p) (each port_tokens ps) (marks (codes ") ;"))) r in
