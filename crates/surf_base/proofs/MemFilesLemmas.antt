@@ -39,7 +39,8 @@ held_in-others old new file name other put named differs =
     not_same {b = false} h = refl
 
 -- an earlier file keeps its content
-pub content_at-push : (old new : List MemFile) (file : MemFile) (i : ℕ) → new ≡ old ++ file ∷ [] → i < length old → content_at new i ≡ content_at old i
+pub content_at-push : (old new : List MemFile) (file : MemFile) (i : ℕ) → new ≡ old ++ file ∷ [] → i < length old
+    → content_at new i ≡ content_at old i
 content_at-push old new file i put before =
     let found : slice_get new i ≡ slice_get old i = grind (arith, common_steps, gets) in
     ap (λ o. option_map_or (λ (f : MemFile). f.content) o []) found
@@ -70,7 +71,8 @@ IsLast-same files name n file before is named =
 
 -- the next file has another name
 pub IsLast-differs : (files : List MemFile) (name : List ℕ) (n : ℕ) (file : MemFile) (found : Option ℕ)
-    → n < length files → slice_get files n ≡ Some file → name ≢ file.name → IsLast files name n found → IsLast files name (n + 1) found
+    → n < length files → slice_get files n ≡ Some file → name ≢ file.name → IsLast files name n found
+    → IsLast files name (n + 1) found
 IsLast-differs files name n file None before is differs last =
     held_in-others (take n files) (take (n + 1) files) file file.name name (take_next files n file before is) refl differs ∙ last
 IsLast-differs files name n file (Some k) before is differs last =
