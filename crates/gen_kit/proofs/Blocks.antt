@@ -14,7 +14,8 @@ module _ {X A : Type 0} (f : X → List A) (m : ℕ) (long : (x : X) → length 
       omega arith
 
   -- place j of block i
-  pub in-block : (xs : List X) (i j : ℕ) (x : X) → slice_get xs i ≡ Some x → j < m → slice_get (flat_map f xs) (i * m + j) ≡ slice_get (f x) j
+  pub in-block : (xs : List X) (i j : ℕ) (x : X) → slice_get xs i ≡ Some x → j < m
+      → slice_get (flat_map f xs) (i * m + j) ≡ slice_get (f x) j
   in-block [] zero j x e h = cc
   in-block [] (suc i) j x e h = cc
   in-block (y ∷ xs) zero j x e h =

@@ -12,7 +12,8 @@ use Rattle.gen_kit.proofs.Blocks.{length-blocks, in-block}
 pub port-count : (p : Plan) → length (top_ports p) ≡ length p.hosts * 11
 port-count p = length-blocks host_ports 11 (λ h. refl) p.hosts
 
-of-kind : (h : Host) (k : ℕ) → k < 11 → option_map (host_port h) (slice_get port_kinds k) ≡ Some (port_of (record { output = nat_le 5 k; high = high_of k; kind = k; tile = h.tile; domain = h.domain }))
+of-kind : (h : Host) (k : ℕ) → k < 11
+    → option_map (host_port h) (slice_get port_kinds k) ≡ Some (port_of (record { output = nat_le 5 k; high = high_of k; kind = k; tile = h.tile; domain = h.domain }))
 of-kind h zero less = refl
 of-kind h (suc zero) less = refl
 of-kind h (suc (suc zero)) less = refl
