@@ -70,7 +70,8 @@ in-gone ms size j below gone =
     let b : nat_le (link_at ms j).next size ≡ false = grind (arith, nat_tests) in
     ap (λ w. w && nat_le (link_at ms j).next size) a ∙ b
 
-in-same : (ls ms : List Link) (size j : ℕ) → (link_at ms j).next ≡ (link_at ls j).next → is_in ms size j ≡ is_in ls size j
+in-same : (ls ms : List Link) (size j : ℕ) → (link_at ms j).next ≡ (link_at ls j).next
+    → is_in ms size j ≡ is_in ls size j
 in-same ls ms size j e = ap (λ n. nat_lt j size && nat_le n size) e
 
 module _ (ls : List Link) (size count : ℕ) (ring : IsRing ls size count) where
@@ -81,7 +82,8 @@ module _ (ls : List Link) (size count : ℕ) (ring : IsRing ls size count) where
       omega (arith, a, b)
 
   -- whatever stands before a linked number is linked, or closes the ring; its link may change to another
-  still-in : (ms : List Link) (b : ℕ) → (b ≡ size) ⊎ (1 ≤ times b (members ls size count)) → (link_at ms b).next ≤ size → is_in ms size b ≡ is_in ls size b
+  still-in : (ms : List Link) (b : ℕ) → (b ≡ size) ⊎ (1 ≤ times b (members ls size count)) → (link_at ms b).next ≤ size
+      → is_in ms size b ≡ is_in ls size b
   still-in ms b (inl closed) linked = ap (λ k. is_in ms size k) closed ∙ in-closed ms size ∙ sym (in-closed ls size) ∙ ap (λ k. is_in ls size k) (sym closed)
   still-in ms b (inr some) linked = in-true ms size b (member-below ls size count ring b some) linked ∙ sym (member-in ls size count ring b some)
 
@@ -98,7 +100,8 @@ module _ (ls : List Link) (size count : ℕ) (ring : IsRing ls size count) where
   pub last-within : (link_at ls size).before < length ls
   last-within = let a = at-within (link_at ls size).before last-at in omega (arith, a, ring.whole)
 
-  at-apart : (i b : ℕ) → i < size → times i (members ls size count) ≡ 0 → (b ≡ size) ⊎ (1 ≤ times b (members ls size count)) → i ≢ b
+  at-apart : (i b : ℕ) → i < size → times i (members ls size count) ≡ 0
+      → (b ≡ size) ⊎ (1 ≤ times b (members ls size count)) → i ≢ b
   at-apart i b below out (inl closed) = λ e. omega (arith, e, closed, below)
   at-apart i b below out (inr some) = λ e. apart i b (members ls size count) out some (sym e)
 
@@ -352,7 +355,8 @@ pub data Follows (xs : List ℕ) (k n z : ℕ) : Type 0 where
   ends : slice_get xs (suc k) ≡ None → n ≡ z → Follows xs k n z
   goes : slice_get xs (suc k) ≡ Some n → Follows xs k n z
 
-follows : (ls : List Link) (a z i : ℕ) (xs : List ℕ) (k : ℕ) → Linked ls a (xs ++ z ∷ []) → slice_get xs k ≡ Some i → Follows xs k (link_at ls i).next z
+follows : (ls : List Link) (a z i : ℕ) (xs : List ℕ) (k : ℕ) → Linked ls a (xs ++ z ∷ []) → slice_get xs k ≡ Some i
+    → Follows xs k (link_at ls i).next z
 follows ls a z i [] k h e = absurd (cc e)
 follows ls a z i (x ∷ []) zero h e = ends refl (let at : x ≡ i = cc e in ap (λ w. (link_at ls w).next) (sym at) ∙ h.2.0)
 follows ls a z i (x ∷ y ∷ ys) zero h e = goes (let at : x ≡ i = cc e in ap Some (sym (ap (λ w. (link_at ls w).next) (sym at) ∙ h.2.0)))
@@ -374,7 +378,8 @@ pub record IsCall (ls : List Link) (size count : ℕ) (v : Numbers) : Type 0 whe
   pub size_is : size ≡ v.size
   pub items_is : members ls size count ≡ v.items
 
-pub is-call : (ls : List Link) (size count : ℕ) (v : Numbers) → IsRing ls size count → record { items = members ls size count; size = size } ≡ v → IsCall ls size count v
+pub is-call : (ls : List Link) (size count : ℕ) (v : Numbers) → IsRing ls size count
+    → record { items = members ls size count; size = size } ≡ v → IsCall ls size count v
 is-call ls size count v ring view = record { ring = ring; size_is = ap (λ (x : Numbers). x.size) view; items_is = ap (λ (x : Numbers). x.items) view }
 
 module _ {ls : List Link} {size count : ℕ} {v : Numbers} (call : IsCall ls size count v) (i : ℕ) where
@@ -400,21 +405,25 @@ module _ {ls : List Link} {size count : ℕ} {v : Numbers} (call : IsCall ls siz
   pub after-value : (k : ℕ) → slice_get v.items k ≡ Some i → Follows (members ls size count) k (link_at ls i).next size
   after-value k at = follows ls size size i (members ls size count) k call.ring.round (ap (λ w. slice_get w k) call.items_is ∙ at)
 
-  pub after-none : (k : ℕ) → slice_get v.items k ≡ Some i → (link_at ls i).next ≡ size → None ≡ slice_get v.items (k + 1)
+  pub after-none : (k : ℕ) → slice_get v.items k ≡ Some i → (link_at ls i).next ≡ size
+      → None ≡ slice_get v.items (k + 1)
   after-none k at end = go (after-value k at)
     where
       go : Follows (members ls size count) k (link_at ls i).next size → None ≡ slice_get v.items (k + 1)
       go (ends none is) = sym none ∙ ap (slice_get (members ls size count)) (let e : suc k ≡ k + 1 = omega arith in e) ∙ ap (λ w. slice_get w (k + 1)) call.items_is
       go (goes some) = absurd (let low = member-below ls size count call.ring (link_at ls i).next (get-times (members ls size count) (suc k) (link_at ls i).next some) in omega (arith, low, end))
 
-  pub after-some : (k : ℕ) → slice_get v.items k ≡ Some i → ((link_at ls i).next ≡ size → ⊥) → Some (link_at ls i).next ≡ slice_get v.items (k + 1)
+  pub after-some : (k : ℕ) → slice_get v.items k ≡ Some i → ((link_at ls i).next ≡ size → ⊥)
+      → Some (link_at ls i).next ≡ slice_get v.items (k + 1)
   after-some k at end = go (after-value k at)
     where
-      go : Follows (members ls size count) k (link_at ls i).next size → Some (link_at ls i).next ≡ slice_get v.items (k + 1)
+      go : Follows (members ls size count) k (link_at ls i).next size
+          → Some (link_at ls i).next ≡ slice_get v.items (k + 1)
       go (ends none is) = absurd (end is)
       go (goes some) = sym some ∙ ap (slice_get (members ls size count)) (let e : suc k ≡ k + 1 = omega arith in e) ∙ ap (λ w. slice_get w (k + 1)) call.items_is
 
-  pub join-value : (below : i < v.size) (absent : has v i ≡ false) → (let w : Numbers = record { items = members (joined ls size i) size (count + 1); size = size } in w) ≡ record { items = v.items ++ i ∷ []; size = v.size }
+  pub join-value : (below : i < v.size) (absent : has v i ≡ false)
+      → (let w : Numbers = record { items = members (joined ls size i) size (count + 1); size = size } in w) ≡ record { items = v.items ++ i ∷ []; size = v.size }
   join-value below absent =
       ap (λ ys. let w : Numbers = record { items = ys; size = size } in w)
       (join-members ls size count call.ring i (let e = call.size_is in omega (arith, e, below)) (absent-out absent) ∙ ap (λ ys. ys ++ i ∷ []) call.items_is)
