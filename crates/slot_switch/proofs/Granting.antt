@@ -21,7 +21,8 @@ use Rattle.slot_switch.proofs.Asking.{lane-start, lane-then, lane-set}
 no-chosen : (x : Switch) (d o : ℕ) → granted_in x d o ≡ None → chosen_in x d o ≡ None
 no-chosen x d o none = go (chosen_in x d o) refl
   where
-    asks : (port : ℕ) (a : Option Grant) → ask_at x d port ≡ a → asks_for a o ≡ true → chosen_in x d o ≡ Some port → chosen_in x d o ≡ None
+    asks : (port : ℕ) (a : Option Grant) → ask_at x d port ≡ a → asks_for a o ≡ true → chosen_in x d o ≡ Some port
+        → chosen_in x d o ≡ None
     asks port None at asked is = absurd (cc asked)
     asks port (Some g) at asked is = absurd (let bad = sym none ∙ ap (option_and_then (granted_to x d)) is ∙ ap (option_map (λ g. let w : Granted = record { port = port; grant = g } in w)) at in cc bad)
 
@@ -39,7 +40,8 @@ pub record IsGrant (x : Switch) (d o : ℕ) (r : Granted) : Type 0 where
 pub is-grant : (x : Switch) (d o : ℕ) (r : Granted) → granted_in x d o ≡ Some r → IsGrant x d o r
 is-grant x d o r some = go (chosen_in x d o) refl
   where
-    asks : (port : ℕ) (a : Option Grant) → ask_at x d port ≡ a → asks_for a o ≡ true → port < x.ports → chosen_in x d o ≡ Some port → IsGrant x d o r
+    asks : (port : ℕ) (a : Option Grant) → ask_at x d port ≡ a → asks_for a o ≡ true → port < x.ports
+        → chosen_in x d o ≡ Some port → IsGrant x d o r
     asks port None at asked less is = absurd (cc asked)
     asks port (Some g) at asked less is =
         let w : Granted = record { port = port; grant = g } in
@@ -57,15 +59,18 @@ is-grant x d o r some = go (chosen_in x d o) refl
 below-zero : (x : Switch) (d k : ℕ) → granted_below 0 x d k ≡ None
 below-zero x d k = go (ask_at x d k)
   where
-    go : (a : Option Grant) → option_and_then (λ g. if nat_lt g.out 0 then to_port (chosen_in x d g.out) k g else None) a ≡ None
+    go : (a : Option Grant)
+        → option_and_then (λ g. if nat_lt g.out 0 then to_port (chosen_in x d g.out) k g else None) a ≡ None
     go None = refl
     go (Some g) = let no : nat_lt g.out 0 ≡ false = grind (arith, nat_tests) in ap (λ b. if b then to_port (chosen_in x d g.out) k g else None) no
 
 -- an output that doesn't pick the port
-below-keep : (x : Switch) (d k o : ℕ) → ((g : Grant) → to_port (chosen_in x d o) k g ≡ None) → granted_below (o + 1) x d k ≡ granted_below o x d k
+below-keep : (x : Switch) (d k o : ℕ) → ((g : Grant) → to_port (chosen_in x d o) k g ≡ None)
+    → granted_below (o + 1) x d k ≡ granted_below o x d k
 below-keep x d k o not = go (ask_at x d k)
   where
-    go : (a : Option Grant) → option_and_then (λ g. if nat_lt g.out (o + 1) then to_port (chosen_in x d g.out) k g else None) a
+    go : (a : Option Grant)
+        → option_and_then (λ g. if nat_lt g.out (o + 1) then to_port (chosen_in x d g.out) k g else None) a
         ≡ option_and_then (λ g. if nat_lt g.out o then to_port (chosen_in x d g.out) k g else None) a
     go None = refl
     go (Some g) = ⊎_elim
@@ -80,7 +85,8 @@ below-keep x d k o not = go (ask_at x d k)
         (cases_eq g.out o)
 
 -- the port that an output picks
-below-take : (x : Switch) (d k o : ℕ) (g : Grant) → ask_at x d k ≡ Some g → g.out ≡ o → chosen_in x d o ≡ Some k → granted_below (o + 1) x d k ≡ Some g
+below-take : (x : Switch) (d k o : ℕ) (g : Grant) → ask_at x d k ≡ Some g → g.out ≡ o → chosen_in x d o ≡ Some k
+    → granted_below (o + 1) x d k ≡ Some g
 below-take x d k o g at out is =
     let yes : nat_lt g.out (o + 1) ≡ true = grind (arith, nat_tests) in
     let own : (k == k) ≡ true = grind (arith, nat_tests) in
@@ -107,7 +113,8 @@ switch-other x d k o apart =
 
 -- ---- one more output
 
-pub have-start : (x : Switch) (u : List (List (Option Grant))) (d : ℕ) → ((k : ℕ) → k < x.ports → slice_get (lane u d) k ≡ Some None) → HaveGranted x x u u d 0
+pub have-start : (x : Switch) (u : List (List (Option Grant))) (d : ℕ)
+    → ((k : ℕ) → k < x.ports → slice_get (lane u d) k ≡ Some None) → HaveGranted x x u u d 0
 have-start x u d none = record {
   rest = refl;
   given = λ k there. none k there ∙ ap Some (sym (below-zero x d k));
@@ -146,7 +153,8 @@ module _ (x y : Switch) (u w : List (List (Option Grant))) (d o : ℕ) (there : 
         grants = have.grants;
       }
 
-  pub have-none : (z : Switch) → granted_in y d o ≡ None → z ≡ moved y d o (granted_in y d o) → HaveGranted x z u w d (o + 1)
+  pub have-none : (z : Switch) → granted_in y d o ≡ None → z ≡ moved y d o (granted_in y d o)
+      → HaveGranted x z u w d (o + 1)
   have-none z none made =
       let P : Switch → Type 0 = λ v. HaveGranted x v u w d (o + 1) in
       subst P (sym (made ∙ ap (moved y d o) none)) (nothing none)
@@ -225,7 +233,8 @@ module _ (x y : Switch) (u w : List (List (Option Grant))) (d o : ℕ) (there : 
       grants = lane-then u w put d have.grants (lane-set w d r.port (Some r.grant) grants_there);
     }
 
-    pub have-some : (z : Switch) (v : List (List (Option Grant))) → z ≡ moved y d o (granted_in y d o) → v ≡ slice_set w d (slice_set (lane w d) r.port (Some r.grant))
+    pub have-some : (z : Switch) (v : List (List (Option Grant))) → z ≡ moved y d o (granted_in y d o)
+        → v ≡ slice_set w d (slice_set (lane w d) r.port (Some r.grant))
         → HaveGranted x z u v d (o + 1)
     have-some z v made set =
         let P : Switch → Type 0 = λ a. HaveGranted x a u put d (o + 1) in
