@@ -43,12 +43,15 @@ bit true = refl
 bit false = refl
 
 -- an offer that is put on the ports is read there
-read-offer : (o : Option Offer) (nets : Nets) (h : Host) → at nets (codes "ov") h ≡ one_if (is_some o) → at nets (codes "oa") h ≡ address_of o → at nets (codes "op") h ≡ payload_of o → at nets (codes "ol") h ≡ last_of o → offer_at nets h ≡ o
+read-offer : (o : Option Offer) (nets : Nets) (h : Host) → at nets (codes "ov") h ≡ one_if (is_some o)
+    → at nets (codes "oa") h ≡ address_of o → at nets (codes "op") h ≡ payload_of o → at nets (codes "ol") h ≡ last_of o
+    → offer_at nets h ≡ o
 read-offer None nets h a b c d = rw a refl
 read-offer (Some w) nets h a b c d =
     rw (a, b, c, d) (ap (λ (l : Bool). Some (record { address = w.address; payload = w.payload; last = l })) (bit w.last))
 
-got-heard : (t n d : ℕ) (hears : Bool) (e : Option Ejected) → got_events t n d true (if hears then e else None) ≡ got_events t n d hears e
+got-heard : (t n d : ℕ) (hears : Bool) (e : Option Ejected)
+    → got_events t n d true (if hears then e else None) ≡ got_events t n d hears e
 got-heard t n d true e = refl
 got-heard t n d false e = refl
 
@@ -130,14 +133,16 @@ module _ (p : Plan) (m : Running) (sound : IsSound m.design) (v : Driver) (t : �
         (got-heard t h.tile h.domain (v.hears j (g.states j) t) (ejected_at nets h) ∙ ap (λ b. got_events t h.tile h.domain b (ejected_at nets h)) (sym hearing))
 
   -- those of a domain are the text's
-  pub events-of : (k : ℕ) (seen : List SeenAt) → plan.IsSound p → ((j : ℕ) (h : Host) → slice_get p.hosts j ≡ Some h → seen_at seen j ≡ seen_text v t j (g.states j) nets h)
+  pub events-of : (k : ℕ) (seen : List SeenAt) → plan.IsSound p
+      → ((j : ℕ) (h : Host) → slice_get p.hosts j ≡ Some h → seen_at seen j ≡ seen_text v t j (g.states j) nets h)
       → filter (λ (e : Event). e.domain == k) (events_seen t seen 0 p.hosts) ≡ text_events p k t nets
   events-of k seen fine saw = own-events t k 0 seen f p.hosts own ∙ ap (flat_map f) (sym (hosts_of-tiles p k fine))
     where
       f : ℕ → List Event
       f n = host_events t nets (host_of k n)
 
-      own : (a i : ℕ) (h : Host) → i ≡ 0 + a → slice_get p.hosts a ≡ Some h → h.domain ≡ k → seen_events t h (seen_at seen i) ≡ f h.tile
+      own : (a i : ℕ) (h : Host) → i ≡ 0 + a → slice_get p.hosts a ≡ Some h → h.domain ≡ k
+          → seen_events t h (seen_at seen i) ≡ f h.tile
       own a i h e at-a mine =
           let same : i ≡ a = omega arith in
           ap (λ z. seen_events t h (seen_at seen z)) same ∙ ap (seen_events t h) (saw a h at-a) ∙ events-so a h at-a ∙ ap (λ z. host_events t nets (host_of z h.tile)) mine
@@ -161,7 +166,8 @@ module _ (p : Plan) (d : Design) (v : Driver) where
   abbrev Text : ℕ → ℕ → Going → List Event
   Text k t g = text_events p k t (nets_in p d v t g)
 
-  replayed-more : (k n t : ℕ) (g : Going) → replayed p d v k (suc n) t g ≡ replayed p d v k n t g ++ Text k (t + n) (gone n t g)
+  replayed-more : (k n t : ℕ) (g : Going)
+      → replayed p d v k (suc n) t g ≡ replayed p d v k n t g ++ Text k (t + n) (gone n t g)
   replayed-more k zero t g = let same : t ≡ t + 0 = omega arith in append-nil (Text k t g) ∙ ap (λ i. Text k i g) same
   replayed-more k (suc n) t g =
       let next : Going = going_next p d v t g in
@@ -176,7 +182,8 @@ module _ (p : Plan) (d : Design) (v : Driver) where
       let same : n ≡ 0 + n = omega arith in
       ap (λ k. going_next p d v k (gone n 0 g)) same ∙ sym (gone-more n 0 g) ∙ ap (λ k. gone k 0 g) (sym one)
 
-  pub next-replayed : (k n : ℕ) (g : Going) → replayed p d v k n 0 g ++ Text k n (gone n 0 g) ≡ replayed p d v k (n + 1) 0 g
+  pub next-replayed : (k n : ℕ) (g : Going)
+      → replayed p d v k n 0 g ++ Text k n (gone n 0 g) ≡ replayed p d v k (n + 1) 0 g
   next-replayed k n g =
       let one : n + 1 ≡ suc n = omega arith in
       let same : n ≡ 0 + n = omega arith in
