@@ -23,7 +23,8 @@ follows-last es e f order = λ x at.
     subst (λ (y : Event). IsNotAfter y f) (sym is) order
 
 -- events of one attachment and cycle
-pub by-kind : (t : ℕ) (h : Host) (a b : Kind) → kind_place a ≤ kind_place b → IsNotAfter (event_at t h a) (event_at t h b)
+pub by-kind : (t : ℕ) (h : Host) (a b : Kind) → kind_place a ≤ kind_place b
+    → IsNotAfter (event_at t h a) (event_at t h b)
 by-kind t h a b less = inr (refl, inr (refl, inr (refl, less)))
 
 -- an event of an attachment comes before the later ones
