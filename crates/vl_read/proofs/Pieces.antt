@@ -24,17 +24,20 @@ unfolding piece_at
 blank_piece [] h e = absurd (omega arith)
 blank_piece (b ∷ bs) h e = rw e refl
 
-pub comment_piece : (bs : List ℕ) → 0 < length bs → is_blank (get_or bs 0 0) ≡ false → get_or bs 0 0 ≡ 47 → comment_at (drop 1 bs) ≡ piece_at bs
+pub comment_piece : (bs : List ℕ) → 0 < length bs → is_blank (get_or bs 0 0) ≡ false → get_or bs 0 0 ≡ 47
+    → comment_at (drop 1 bs) ≡ piece_at bs
 unfolding piece_at
 comment_piece [] h e f = absurd (omega arith)
 comment_piece (b ∷ bs) h e f = let g : eqb b 47 ≡ true = rw f refl in rw (e, g) refl
 
-pub run_piece : (bs : List ℕ) → 0 < length bs → is_blank (get_or bs 0 0) ≡ false → eqb (get_or bs 0 0) 47 ≡ false → is_run (get_or bs 0 0) ≡ true → run_at (run_of bs) (after_run bs) ≡ piece_at bs
+pub run_piece : (bs : List ℕ) → 0 < length bs → is_blank (get_or bs 0 0) ≡ false → eqb (get_or bs 0 0) 47 ≡ false
+    → is_run (get_or bs 0 0) ≡ true → run_at (run_of bs) (after_run bs) ≡ piece_at bs
 unfolding piece_at
 run_piece [] h e f g = absurd (omega arith)
 run_piece (b ∷ bs) h e f g = rw (e, f, g) refl
 
-pub symbol_piece : (bs : List ℕ) → 0 < length bs → is_blank (get_or bs 0 0) ≡ false → eqb (get_or bs 0 0) 47 ≡ false → is_run (get_or bs 0 0) ≡ false → symbol_at (get_or bs 0 0) (drop 1 bs) ≡ piece_at bs
+pub symbol_piece : (bs : List ℕ) → 0 < length bs → is_blank (get_or bs 0 0) ≡ false → eqb (get_or bs 0 0) 47 ≡ false
+    → is_run (get_or bs 0 0) ≡ false → symbol_at (get_or bs 0 0) (drop 1 bs) ≡ piece_at bs
 unfolding piece_at
 symbol_piece [] h e f g = absurd (omega arith)
 symbol_piece (b ∷ bs) h e f g = rw (e, f, g) refl
@@ -48,7 +51,8 @@ abbrev IsWithin : ℕ → Option tokens.Piece → Type 0
 IsWithin n None = Unit {0}
 IsWithin n (Some p) = (0 < p.len) × (p.len ≤ n)
 
-one_within : (n : ℕ) (b : Bool) (x y : Option tokens.Piece) → (b ≡ true → IsWithin n x) → (b ≡ false → IsWithin n y) → IsWithin n (cond b x y)
+one_within : (n : ℕ) (b : Bool) (x y : Option tokens.Piece) → (b ≡ true → IsWithin n x) → (b ≡ false → IsWithin n y)
+    → IsWithin n (cond b x y)
 one_within n true x y f g = f refl
 one_within n false x y f g = g refl
 
@@ -128,6 +132,7 @@ longest_within (b ∷ bs) =
     (λ e. one_within n (eqb b 47) (comment_at bs) (cond (is_run b) (run_at (run_of (b ∷ bs)) (after_run (b ∷ bs))) (symbol_at b bs)) (λ f. comment_within bs)
     (λ f. one_within n (is_run b) (run_at (run_of (b ∷ bs)) (after_run (b ∷ bs))) (symbol_at b bs) runs (λ g. symbol_within b bs)))
 
-pub piece_within : (o : Option Piece) (bs : List ℕ) → option_map piece_of o ≡ piece_at bs → IfSome o (λ p. (0 < p.len) × (p.len ≤ length bs))
+pub piece_within : (o : Option Piece) (bs : List ℕ) → option_map piece_of o ≡ piece_at bs
+    → IfSome o (λ p. (0 < p.len) × (p.len ≤ length bs))
 piece_within None bs e = tt
 piece_within (Some p) bs e = subst (λ x. IsWithin (length bs) x) (sym e) (longest_within bs)
