@@ -46,14 +46,16 @@ modulo-earlier k t w some = go order
 
 -- ---- the slots of a cycle
 
-pub owned-plus : (p : Plan) (n t i period h w slot : ℕ) → period ≡ length p.slots → 0 < length p.slots → h ≡ hop p → w ≡ wave p n
+pub owned-plus : (p : Plan) (n t i period h w slot : ℕ) → period ≡ length p.slots → 0 < length p.slots → h ≡ hop p
+    → w ≡ wave p n
     → slot ≡ (t % period + (period - h * w % period)) % period → slot ≡ slot_of p n (pos t) (Plus i)
 owned-plus p n t i period h w slot turns some hops waves is =
     let shift : h * w ≡ hop p * wave p n = cc in
     is ∙ ap (λ k. (t % k + (k - h * w % k)) % k) turns ∙ ap (λ s. (t % length p.slots + (length p.slots - s % length p.slots)) % length p.slots) shift
     ∙ sym (modulo-earlier (length p.slots) t (hop p * wave p n) some)
 
-pub owned-minus : (p : Plan) (n t i period h w slot : ℕ) → period ≡ length p.slots → 0 < length p.slots → h ≡ hop p → w ≡ wave p n
+pub owned-minus : (p : Plan) (n t i period h w slot : ℕ) → period ≡ length p.slots → 0 < length p.slots → h ≡ hop p
+    → w ≡ wave p n
     → slot ≡ (t % period + h * w % period) % period → slot ≡ slot_of p n (pos t) (Minus i)
 owned-minus p n t i period h w slot turns some hops waves is =
     let shift : h * w ≡ hop p * wave p n = cc in
