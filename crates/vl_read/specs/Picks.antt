@@ -9,14 +9,14 @@ use Rattle.vl_read.specs.declared.expr.Pick.TheVariants.{Whole, Bit, Part, Word}
 use Rattle.vl_read.specs.declared.expr.Rest.{Rest}
 use Rattle.vl_read.specs.declared.expr.Rest.TheVariants.{With, Which}
 
--- what stands behind a name
+-- what the code found behind a name: nothing, a bit, the bits between two numbers, or the index of a word
 abbrev pub pick_of : Pick → reading.Pick
 pick_of Whole = whole
 pick_of (Bit i) = at_bit i
 pick_of (Part h l) = at_part h l
 pick_of (Word e) = at_word (read e)
 
--- what stands behind a first operand
+-- what the code found behind a first operand: an operator and its second operand, or both branches of a choice
 abbrev pub rest_of : Rest → reading.Rest
 rest_of (With op b) = with op (read b)
 rest_of (Which b c) = which (read b) (read c)

@@ -25,15 +25,15 @@ read_step (Expr-F.Two op a b) = two op a b
 read_step (Expr-F.If c a b) = choose c a b
 read_step (Expr-F.Cat es) = cat (parts_of es)
 
--- an expression of the code
+-- the expression that one of the code stands for
 abbrev pub read : code.Expr → Expr
 read = code.fold-Expr Expr read_step
 
--- the operands of a concatenation of the code
+-- the parts of a concatenation, for a list of expressions of the code
 abbrev pub reads : List code.Expr → Exprs
 reads es = parts_of (map read es)
 
--- an item of a leaf of the code
+-- the item that one of the code stands for
 abbrev pub read_item : LeafItem → Item
 read_item (items.Wire h n) = wire h n
 read_item (items.Reg h n) = reg h n
@@ -46,7 +46,7 @@ read_item (items.Store c n i e) = store (read c) n (read i) (read e)
 abbrev pub read_items : List LeafItem → List Item
 read_items is = map read_item is
 
--- a leaf of the code
+-- the leaf that one of the code stands for
 abbrev pub read_leaf : leaves.Leaf → Leaf
 read_leaf l = record { name = l.name; ports = l.ports; items = read_items l.items }
 
@@ -54,6 +54,6 @@ read_leaf l = record { name = l.name; ports = l.ports; items = read_items l.item
 abbrev pub read_leaves : List leaves.Leaf → List Leaf
 read_leaves ls = map read_leaf ls
 
--- a design of the code
+-- the design that one of the code stands for
 abbrev pub read_design : designs.Design → Design
 read_design d = record { leaves = read_leaves d.leaves; top = d.top }

@@ -71,7 +71,7 @@ is_run b = is_letter b || is_ascii_digit b || (b == 95)
 abbrev pub words : List (List ℕ)
 words = split (codes "module endmodule input output wire reg assign always posedge if else clk rst noc")
 
--- whether a run is a word
+-- whether a run is one of these words
 abbrev pub is_word : List ℕ → Bool
 is_word r = list_any (bytes_eq r) words
 
@@ -162,7 +162,7 @@ pub record Placed : Type 0 where
   pub token : Token
   pub left : ℕ
 
--- the tokens behind a piece, with the piece's own token if it has one
+-- the tokens behind a piece, and before them the piece's own token if it has one
 abbrev pub with_token : Option Token → ℕ → List Placed → List Placed
 with_token None n ts = ts
 with_token (Some t) n ts = record { token = t; left = n } ∷ ts
@@ -199,7 +199,7 @@ unread bytes = unread_behind 0 bytes
 
 -- ---- what a token can be
 
--- all symbols
+-- the symbols, of one byte or two
 abbrev pub symbols : List (List ℕ)
 symbols = split (codes "( ) [ ] { } ; : , . @ = + - & | ^ ~ ? < <= ==")
 
@@ -212,7 +212,8 @@ abbrev pub Holds : Bool → Type 0
 Holds true = Unit {0}
 Holds false = ⊥
 
--- the token can stand in a text
+-- the token can stand in a text: a word or symbol of the grammar, a name, a number of at most nine digits, or a constant
+-- of 1 to 64 bits whose value fits them
 abbrev pub IsToken : Token → Type 0
 IsToken (mark m) = Holds (is_mark_text m)
 IsToken (name n) = IsTrue (is_name n)
