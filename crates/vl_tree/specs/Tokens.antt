@@ -212,8 +212,8 @@ abbrev pub Holds : Bool → Type 0
 Holds true = Unit {0}
 Holds false = ⊥
 
--- the token can stand in a text: a word or symbol of the grammar, a name, a number of at most nine digits, or a constant
--- of 1 to 64 bits whose value fits them
+-- the token can stand in a text: a word or symbol of the grammar, a name, a number of at most nine digits, or a
+-- constant of 1 to 64 bits whose value fits them
 abbrev pub IsToken : Token → Type 0
 IsToken (mark m) = Holds (is_mark_text m)
 IsToken (name n) = IsTrue (is_name n)
