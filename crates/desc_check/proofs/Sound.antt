@@ -34,7 +34,9 @@ use Rattle.desc_check.proofs.Judged.{both, denied, second, good_name, good_chann
 -- ---- numbers and names
 
 pub between : (low high n : ℕ) → is_between low high n ≡ true → (low ≤ n) × (n ≤ high)
-between low high n h = let parts = both (nat_le low n) (nat_le n high) h in (grind (arith, nat_tests), grind (arith, nat_tests))
+between low high n h =
+    let parts = both (nat_le low n) (nat_le n high) h in
+    (grind (arith, nat_tests), grind (arith, nat_tests))
 
 pub within : (low high : ℕ) (z : ℤ) → is_within low high z ≡ true → (low ≤ number_of z) × (number_of z ≤ high)
 within low high (pos n) h = between low high n h
@@ -59,7 +61,9 @@ name_byte b h = grind (arith, nat_tests)
 
 bytes : (b : List ℕ) → list_all is_name_byte b ≡ true → AllByRecursion IsNameByte b
 bytes [] h = tt
-bytes (x ∷ xs) h = let parts = both (is_name_byte x) (list_all is_name_byte xs) h in (name_byte x parts.0, bytes xs parts.1)
+bytes (x ∷ xs) h =
+    let parts = both (is_name_byte x) (list_all is_name_byte xs) h in
+    (name_byte x parts.0, bytes xs parts.1)
 
 name : (b : List ℕ) → is_name b ≡ true → IsName b
 name b h =
@@ -115,7 +119,8 @@ pub record Sided (version : ℤ) (dims : List ℤ) : Type 0 where
 
 pub sided : (version : ℤ) (dims : List ℤ) → has_sides version dims ≡ true → Sided version dims
 sided version dims h =
-    let a = both (is_between 1 (sides_allowed version) (length dims) && list_all (is_within 1 16) dims) (nat_le (tile_count dims) 256) h in
+    let a =
+    both (is_between 1 (sides_allowed version) (length dims) && list_all (is_within 1 16) dims) (nat_le (tile_count dims) 256) h in
     let b = both (is_between 1 (sides_allowed version) (length dims)) (list_all (is_within 1 16) dims) a.0 in
     let count = between 1 (sides_allowed version) (length dims) b.0 in
     let most = few_sides (int_eq version (pos 1)) in
@@ -172,7 +177,8 @@ hosts_within n d some =
     All-filter (λ (h : Host). is_hosted d.tiles h.tile (name_at d.domains h.domain)) (λ (h : Host). (h.tile < n) × (h.domain < length d.domains)) (map (pair_at (length d.domains)) (range_with_len 0 (n * length d.domains)))
     (All-map (λ (h : Host). (h.tile < n) × (h.domain < length d.domains)) (pair_at (length d.domains)) (range_with_len 0 (n * length d.domains)) (λ k z less.
     let len = length-range_with_len 0 (n * length d.domains) in
-    let at : get_or (range_with_len 0 (n * length d.domains)) k z ≡ 0 + k = get_or-range_with_len 0 (n * length d.domains) k z (omega arith) in
+    let at : get_or (range_with_len 0 (n * length d.domains)) k z ≡ 0 + k =
+    get_or-range_with_len 0 (n * length d.domains) k z (omega arith) in
     host_within n (length d.domains) (get_or (range_with_len 0 (n * length d.domains)) k z) some (omega arith)))
 
 pub hosts_in_order : (n : ℕ) (d : Draft) → 1 ≤ length d.domains → AllPairs IsBefore (hosts_of n d.domains d.tiles)
@@ -180,8 +186,10 @@ hosts_in_order n d some =
     AllPairs-filter IsBefore (λ (h : Host). is_hosted d.tiles h.tile (name_at d.domains h.domain)) (map (pair_at (length d.domains)) (range_with_len 0 (n * length d.domains)))
     (pairs_map IsBefore (pair_at (length d.domains)) (range_with_len 0 (n * length d.domains)) (λ i j z less under.
     let len = length-range_with_len 0 (n * length d.domains) in
-    let at_i : get_or (range_with_len 0 (n * length d.domains)) i z ≡ 0 + i = get_or-range_with_len 0 (n * length d.domains) i z (omega arith) in
-    let at_j : get_or (range_with_len 0 (n * length d.domains)) j z ≡ 0 + j = get_or-range_with_len 0 (n * length d.domains) j z (omega arith) in
+    let at_i : get_or (range_with_len 0 (n * length d.domains)) i z ≡ 0 + i =
+    get_or-range_with_len 0 (n * length d.domains) i z (omega arith) in
+    let at_j : get_or (range_with_len 0 (n * length d.domains)) j z ≡ 0 + j =
+    get_or-range_with_len 0 (n * length d.domains) j z (omega arith) in
     host_before (length d.domains) (get_or (range_with_len 0 (n * length d.domains)) i z) (get_or (range_with_len 0 (n * length d.domains)) j z) some (omega arith)))
 
 -- ---- the ranges
@@ -255,7 +263,9 @@ found_at (x ∷ xs) written n h = here (bytes_eq x.name written) h (found_at xs 
         → (is_domain xs written ≡ true → (k : ℕ) × (k < length xs) × (position_from (λ x. bytes_eq x.name written) (n + 1) xs ≡ Some (n + 1 + k)))
         → (k : ℕ) × (k < suc (length xs)) × (cond b (Some n) (position_from (λ x. bytes_eq x.name written) (n + 1) xs) ≡ Some (n + k))
     here true h rest = (0, omega arith, ap (λ (m : ℕ). Some m) (let same : n ≡ n + 0 = omega arith in same))
-    here false h rest = let r = rest h in (suc r.0, omega (arith, r.1), r.2 ∙ ap (λ (m : ℕ). Some m) (let same : n + 1 + r.0 ≡ n + suc r.0 = omega arith in same))
+    here false h rest =
+        let r = rest h in
+        (suc r.0, omega (arith, r.1), r.2 ∙ ap (λ (m : ℕ). Some m) (let same : n + 1 + r.0 ≡ n + suc r.0 = omega arith in same))
 
 number_below : (xs : List DraftDomain) (written : List ℕ) → is_domain xs written ≡ true
     → domain_number xs written < length xs
@@ -273,7 +283,8 @@ found_itself [] apart n k d less = absurd (omega arith)
 found_itself (x ∷ xs) apart n zero d less =
     let same : bytes_eq x.name x.name ≡ true = (bytes_eq-Decides x.name x.name).1 refl in
     let last : n ≡ n + 0 = omega arith in
-    ap (λ (b : Bool). cond b (Some n) (position_from (λ y. bytes_eq y.name x.name) (n + 1) xs)) same ∙ ap (λ (m : ℕ). Some m) last
+    ap (λ (b : Bool). cond b (Some n) (position_from (λ y. bytes_eq y.name x.name) (n + 1) xs)) same
+    ∙ ap (λ (m : ℕ). Some m) last
 found_itself (x ∷ xs) apart n (suc k) d less =
     let other : bytes_eq x.name (get_or xs k d).name ≡ false = apart 0 (suc k) d (omega arith) less in
     let last : n + 1 + k ≡ n + suc k = omega arith in
@@ -285,16 +296,19 @@ listed : (version : ℤ) (xs : List DraftDomain) (slots : List (List ℕ)) → d
     → int_eq version (pos 2) ≡ true → slot_count_fault version slots ≡ None → slot_unknown_fault xs slots ≡ None
     → slot_missing_fault version xs slots ≡ None → Served (length xs) (map (domain_number xs) slots)
 listed version xs slots twice two count known missing =
-    let size = between 1 64 (length slots) (denied _ (second (int_eq version (pos 2)) (not (is_between 1 64 (length slots))) (holds_not _ SlotCount count) two)) in
+    let size =
+    between 1 64 (length slots) (denied _ (second (int_eq version (pos 2)) (not (is_between 1 64 (length slots))) (holds_not _ SlotCount count) two)) in
     let len : length (map (domain_number xs) slots) ≡ length slots = length-map slots (domain_number xs) in
     record {
       count = (omega arith, omega arith);
       known = All-map (λ (d : ℕ). d < length xs) (domain_number xs) slots (λ k z less. number_below xs (get_or slots k z) (slot_known xs slots known k z less));
       each = λ d less.
           let z : DraftDomain = record { name = []; channels = pos 0 } in
-          let at = Any-from_list_any (λ other. bytes_eq other (get_or xs d z).name) slots (has_slot version xs slots missing two d z less) in
+          let at =
+          Any-from_list_any (λ other. bytes_eq other (get_or xs d z).name) slots (has_slot version xs slots missing two d z less) in
           let same : at.1 ≡ (get_or xs d z).name = (bytes_eq-Decides at.1 (get_or xs d z).name).0 at.4 in
-          let itself : domain_number xs (get_or xs d z).name ≡ d = ap (λ (o : Option ℕ). unwrap_or o 0) (found_itself xs (names_apart xs twice) 0 d z less) ∙ zero-add d in
+          let itself : domain_number xs (get_or xs d z).name ≡ d =
+          ap (λ (o : Option ℕ). unwrap_or o 0) (found_itself xs (names_apart xs twice) 0 d z less) ∙ zero-add d in
           (at.0, omega (arith, at.2), get_or-map (domain_number xs) slots at.0 at.1 d at.2 ∙ ap (domain_number xs) (at.3 ∙ same) ∙ itself);
     }
 

@@ -42,7 +42,8 @@ pub left-next : {Y : Type 0} (p : ℕ → Bool) (f : ℕ → Y) (ys : List Y) (i
     → ys ≡ map f (filter p (range_with_len 0 i)) → ys ≡ map f (filter p (range_with_len 0 (i + 1)))
 left-next p f ys i test so_far =
     let none : filter p (i ∷ []) ≡ [] = rw test refl in
-    so_far ∙ sym (ap (map f) (filter-next p i ∙ ap (λ t. filter p (range_with_len 0 i) ++ t) none ∙ append-nil (filter p (range_with_len 0 i))))
+    so_far
+    ∙ sym (ap (map f) (filter-next p i ∙ ap (λ t. filter p (range_with_len 0 i) ++ t) none ∙ append-nil (filter p (range_with_len 0 i))))
 
 -- a domain's draft, from its name and its channels
 pub domain-is : (xs : List DomainPart) (d : ℕ) (z : DomainPart) (name : List ℕ) (channels : ℕ) → d < length xs
