@@ -20,7 +20,8 @@ own d es = filter (λ (e : Event). e.domain == d) es
 at_next : (b : Bool) (d : ℕ) (es : List Event) (i : ℕ) (z : Event) → i < length es → ((get_or es i z).domain == d) ≡ b
     → own d (take (i + 1) es) ≡ own d (take i es) ++ (if b then get_or es i z ∷ [] else [])
 at_next b d es i z less test =
-    filter_more (λ (e : Event). e.domain == d) es i z less ∙ ap (λ (c : Bool). own d (take i es) ++ (if c then get_or es i z ∷ [] else [])) test
+    filter_more (λ (e : Event). e.domain == d) es i z less
+    ∙ ap (λ (c : Bool). own d (take i es) ++ (if c then get_or es i z ∷ [] else [])) test
 
 -- one more that is the domain's
 own-more : (d : ℕ) (es : List Event) (i : ℕ) (z : Event) → i < length es → (get_or es i z).domain ≡ d
@@ -64,10 +65,14 @@ pub counts-more : (m n : Counts) (d : ℕ) (es : List Event) (i : ℕ) (z : Even
     → n.gots ≡ m.gots + (if is_got (get_or es i z).kind then 1 else 0)
     → n ≡ counts_of (own d (take (i + 1) es))
 counts-more m n d es i z less is so_far takes waits drops gots =
-    let a = takes ∙ count-more (λ (e : Event). is_take e.kind) m.takes d es i z less is (ap (λ (c : Counts). c.takes) so_far) in
-    let b = waits ∙ count-more (λ (e : Event). is_wait e.kind) m.waits d es i z less is (ap (λ (c : Counts). c.waits) so_far) in
-    let e = drops ∙ count-more (λ (e : Event). is_drop e.kind) m.drops d es i z less is (ap (λ (c : Counts). c.drops) so_far) in
-    let f = gots ∙ count-more (λ (e : Event). is_got e.kind) m.gots d es i z less is (ap (λ (c : Counts). c.gots) so_far) in
+    let a =
+    takes ∙ count-more (λ (e : Event). is_take e.kind) m.takes d es i z less is (ap (λ (c : Counts). c.takes) so_far) in
+    let b =
+    waits ∙ count-more (λ (e : Event). is_wait e.kind) m.waits d es i z less is (ap (λ (c : Counts). c.waits) so_far) in
+    let e =
+    drops ∙ count-more (λ (e : Event). is_drop e.kind) m.drops d es i z less is (ap (λ (c : Counts). c.drops) so_far) in
+    let f =
+    gots ∙ count-more (λ (e : Event). is_got e.kind) m.gots d es i z less is (ap (λ (c : Counts). c.gots) so_far) in
     λ t. record { takes = a t; waits = b t; drops = e t; gots = f t }
 
 -- an end of six pieces after all that stands before
