@@ -14,7 +14,9 @@ use Rattle.domain_xbar.specs.Crossed.{AreSingle, IsInput, IsGranted, flit_of, li
 -- ---- one entry is written
 
 get-same : {T : Type 0} (xs : List T) (k : ℕ) (x : T) → k < length xs → slice_get (set xs k x) k ≡ Some x
-get-same xs k x there = slice_get-get_or (set xs k x) k x (let e = length-set xs k x in omega (arith, e, there)) ∙ ap Some (get_or-set_same xs k x x there)
+get-same xs k x there =
+    slice_get-get_or (set xs k x) k x (let e = length-set xs k x in omega (arith, e, there))
+    ∙ ap Some (get_or-set_same xs k x x there)
 
 get-other : {T : Type 0} (xs : List T) (k j : ℕ) (x y : T) → j ≢ k → slice_get xs j ≡ Some y
     → slice_get (set xs k x) j ≡ Some y
@@ -92,9 +94,12 @@ module _ (p : Plan) (grants : List (List (Option Grant))) (fronts : List (List (
           (have.link d port h b at away))
           (λ (e : (d ≡ m) × (port ≡ q)).
           let same = same-grant d port h e.0 e.1 at in
-          let P : Grant → Type 0 = λ k. slice_get (slice_set links g.out (with_channel g.to flit)) k.out ≡ Some (with_channel k.to (flit_of p fronts d port k)) in
-          let Q : ℕ → Type 0 = λ k. slice_get (slice_set links g.out (with_channel g.to flit)) g.out ≡ Some (with_channel g.to (flit_of p fronts k port g)) in
-          let R : ℕ → Type 0 = λ k. slice_get (slice_set links g.out (with_channel g.to flit)) g.out ≡ Some (with_channel g.to (flit_of p fronts m k g)) in
+          let P : Grant → Type 0 =
+          λ k. slice_get (slice_set links g.out (with_channel g.to flit)) k.out ≡ Some (with_channel k.to (flit_of p fronts d port k)) in
+          let Q : ℕ → Type 0 =
+          λ k. slice_get (slice_set links g.out (with_channel g.to flit)) g.out ≡ Some (with_channel g.to (flit_of p fronts k port g)) in
+          let R : ℕ → Type 0 =
+          λ k. slice_get (slice_set links g.out (with_channel g.to flit)) g.out ≡ Some (with_channel g.to (flit_of p fronts m k g)) in
           subst P (sym same) (subst Q (sym e.0) (subst R (sym e.1) (get-same links g.out (with_channel g.to flit) (omega (arith, many_links, within))))))
           (before-or p m q d port moved);
       no_link = λ o there not.
@@ -142,7 +147,8 @@ module _ (p : Plan) (grants : List (List (Option Grant))) (fronts : List (List (
         → vs ≡ linked g f links → ws ≡ ejected m g f eject
         → HaveCrossed (IsBefore p m (q + 1)) p grants fronts vs ws
     crossed-some f is_flit vs ws ev ew =
-        let P : List (Option LinkFlit) → List (Option Flit) → Type 0 = λ a b. HaveCrossed (IsBefore p m (q + 1)) p grants fronts a b in
+        let P : List (Option LinkFlit) → List (Option Flit) → Type 0 =
+        λ a b. HaveCrossed (IsBefore p m (q + 1)) p grants fronts a b in
         let lv : vs ≡ linked g flit links = ev ∙ ap (λ k. linked g k links) is_flit in
         let lw : ws ≡ ejected m g flit eject = ew ∙ ap (λ k. ejected m g k eject) is_flit in
         ⊎_elim

@@ -31,7 +31,9 @@ filled-places x f n counts v d made are there =
     let is = filled-is x f n counts v made are in
     let long : length v ≡ n = ap length is ∙ length-map-range_with_len (λ e. replicate (f e) x) 0 n in (
       omega (arith, long, there),
-      ap (λ w. length (lane w d)) is ∙ ap length (get_or-map-range_with_len (λ e. replicate (f e) x) 0 n d d [] there (omega arith)) ∙ length-replicate (f d) x,
+      ap (λ w. length (lane w d)) is
+          ∙ ap length (get_or-map-range_with_len (λ e. replicate (f e) x) 0 n d d [] there (omega arith))
+          ∙ length-replicate (f d) x,
     )
 
 -- each place is read so, also where there is none
@@ -69,7 +71,8 @@ is-one counts v w d port g made put there inside = record { one = one }
         (λ (at : k ≡ port).
         let both : Some h ≡ Some g =
         sym (read e k h is) ∙ ap (λ j. get_or (lane (set v d (set (lane v d) port (Some g))) j) k None) same
-        ∙ ap (λ j. get_or (lane (set v d (set (lane v d) port (Some g))) d) j None) at ∙ lane-written v d port (Some g) None there inside in
+        ∙ ap (λ j. get_or (lane (set v d (set (lane v d) port (Some g))) d) j None) at
+        ∙ lane-written v d port (Some g) None there inside in
         (same, at, cc both))
         (λ (apart : k ≢ port). absurd (let bad : Some h ≡ None =
         sym (read e k h is) ∙ ap (λ j. get_or (lane (set v d (set (lane v d) port (Some g))) j) k None) same
@@ -105,7 +108,8 @@ put-places v w d k e n x put there has = (
     long : length (lane (set v d (set (lane v d) k x)) e) ≡ length (lane v e)
     long = ⊎_elim
         (λ (same : e ≡ d).
-        ap (λ j. length (lane (set v d (set (lane v d) k x)) j)) same ∙ ap length (get_or-set_same v d (set (lane v d) k x) [] there) ∙ length-set (lane v d) k x
+        ap (λ j. length (lane (set v d (set (lane v d) k x)) j)) same
+        ∙ ap length (get_or-set_same v d (set (lane v d) k x) [] there) ∙ length-set (lane v d) k x
         ∙ ap (λ j. length (lane v j)) (sym same))
         (λ (apart : e ≢ d). ap length (lanes-other v d e k x apart))
         (cases_eq e d)

@@ -31,7 +31,8 @@ grant-owner p d n t s i port o g is out link =
 pub one-domain : (p : Plan) (d e n port q o : ℕ) (t : ℤ) (s r : Tile) (i j : TileIn) (g h : Grant)
     → grant p d n t s i port ≡ Some g → grant p e n t r j q ≡ Some h
     → g.out ≡ o → h.out ≡ o → o ≢ 0 → d ≡ e
-one-domain p d e n port q o t s r i j g h is at out here link = sym (grant-owner p d n t s i port o g is out link) ∙ grant-owner p e n t r j q o h at here link
+one-domain p d e n port q o t s r i j g h is at out here link =
+    sym (grant-owner p d n t s i port o g is out link) ∙ grant-owner p e n t r j q o h at here link
 
 pub one-port : (p : Plan) (d n port q o : ℕ) (t : ℤ) (s : Tile) (i : TileIn) (g h : Grant)
     → grant p d n t s i port ≡ Some g → grant p d n t s i q ≡ Some h
@@ -65,7 +66,8 @@ module _ (p : Plan) (n : ℕ) (t : ℤ) (s : ℕ → Tile) (i : ℕ → TileIn) 
       let same : e ≡ d = sym (grant-owner p e n t (s e) (i e) port o g by here link) ∙ owns in
       let ready = grant-ready p e n t (s e) (i e) port g by in
       let some : sent p e n t (s e) (i e) o ≡ with_channel g.to (Some ready.flit) =
-      ap (sent p e n t (s e) (i e)) (sym here) ∙ granted-sent p e n t (s e) (i e) port g by ∙ ap (with_channel g.to) ready.is_front in
+      ap (sent p e n t (s e) (i e)) (sym here) ∙ granted-sent p e n t (s e) (i e) port g by
+      ∙ ap (with_channel g.to) ready.is_front in
       let none : sent p e n t (s e) (i e) o ≡ None = ap (λ k. sent p k n t (s k) (i k) o) same ∙ is in
       let bad = sym none ∙ some in absurd (cc bad))
   link-of d o there inside link owns (Some x) is =
@@ -84,7 +86,8 @@ module _ (p : Plan) (n : ℕ) (t : ℤ) (s : ℕ → Tile) (i : ℕ → TileIn) 
       let by = granted d port g moved at in
       let ready = grant-ready p d n t (s d) (i d) port g by in
       let some : sent p d n t (s d) (i d) 0 ≡ with_channel g.to (Some ready.flit) =
-      ap (sent p d n t (s d) (i d)) (sym here) ∙ granted-sent p d n t (s d) (i d) port g by ∙ ap (with_channel g.to) ready.is_front in
+      ap (sent p d n t (s d) (i d)) (sym here) ∙ granted-sent p d n t (s d) (i d) port g by
+      ∙ ap (with_channel g.to) ready.is_front in
       let bad = sym is ∙ some in absurd (cc bad))
   local-of d there (Some x) is =
       let by = sent-by p d n t (s d) (i d) 0 x is in
