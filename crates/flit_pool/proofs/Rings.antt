@@ -236,17 +236,22 @@ is-parted ls size i inside b_in n_in i_b i_n =
 
 pub length-joined : (ls : List Link) (size i : ℕ) → length (joined ls size i) ≡ length ls
 length-joined ls size i =
-    length-set (set (with_next ls (link_at ls size).before i) i _) size _ ∙ length-set (with_next ls (link_at ls size).before i) i _ ∙ length-set ls (link_at ls size).before _
+    length-set (set (with_next ls (link_at ls size).before i) i _) size _
+    ∙ length-set (with_next ls (link_at ls size).before i) i _ ∙ length-set ls (link_at ls size).before _
 
 pub length-parted : (ls : List Link) (size i : ℕ) → length (parted ls size i) ≡ length ls
 length-parted ls size i =
     length-set (with_before (with_next ls (link_at ls i).before (link_at ls i).next) (link_at ls i).next (link_at ls i).before) i _
-    ∙ length-set (with_next ls (link_at ls i).before (link_at ls i).next) (link_at ls i).next _ ∙ length-set ls (link_at ls i).before _
+    ∙ length-set (with_next ls (link_at ls i).before (link_at ls i).next) (link_at ls i).next _
+    ∙ length-set ls (link_at ls i).before _
 
 pub parted-gone : (ls : List Link) (size i : ℕ) → i < length ls → (link_at (parted ls size i) i).next ≡ size + 1
 parted-gone ls size i inside =
-    let ls₂ : List Link = with_before (with_next ls (link_at ls i).before (link_at ls i).next) (link_at ls i).next (link_at ls i).before in
-    let long : length ls₂ ≡ length ls = length-set (with_next ls (link_at ls i).before (link_at ls i).next) (link_at ls i).next _ ∙ length-set ls (link_at ls i).before _ in
+    let ls₂ : List Link =
+    with_before (with_next ls (link_at ls i).before (link_at ls i).next) (link_at ls i).next (link_at ls i).before in
+    let long : length ls₂ ≡ length ls =
+    length-set (with_next ls (link_at ls i).before (link_at ls i).next) (link_at ls i).next _
+    ∙ length-set ls (link_at ls i).before _ in
     ap (λ (x : Link). x.next) (same ls₂ i _ (omega (arith, long, inside)))
 
 -- ---- a ring
@@ -271,7 +276,8 @@ module _ (ls : List Link) (size count : ℕ) (ring : IsRing ls size count) where
   member-in i some = let a = ring.once i in one-true (is_in ls size i) (omega (arith, a, some))
 
   pub member-below : (i : ℕ) → 1 ≤ times i (members ls size count) → i < size
-  member-below i some = ltb-true i size (and-both (nat_lt i size) (nat_le (link_at ls i).next size) (member-in i some)).0
+  member-below i some =
+      ltb-true i size (and-both (nat_lt i size) (nat_le (link_at ls i).next size) (member-in i some)).0
 
   pub closed-out : times size (members ls size count) ≡ 0
   closed-out =
