@@ -51,7 +51,10 @@ bits-is n b some enough before = from-is n 1 n b some (high b some before) enoug
     high : (b : ℕ) → 1 ≤ b → ((c : ℕ) → 1 ≤ c → c < b → 2 ^ c < n) → b ≤ 1 + n
     high zero some before = omega arith
     high (suc zero) some before = omega arith
-    high (suc (suc k)) some before = let past = before (suc k) (omega arith) (omega arith) in let g = grows (suc k) in omega (arith, past, g)
+    high (suc (suc k)) some before =
+        let past = before (suc k) (omega arith) (omega arith) in
+        let g = grows (suc k) in
+        omega (arith, past, g)
 
 -- ---- the most channels
 
