@@ -74,7 +74,8 @@ picks b c x y k e f = f ∙ ap (λ z. chosen z x y) e
 
 picks-two : (a b : Bool) (c d p q r s k : ℕ) → c ≡ one_if a → d ≡ one_if b → k ≡ chosen c (chosen d p q) (chosen d r s)
     → k ≡ chosen (one_if a) (chosen (one_if b) p q) (chosen (one_if b) r s)
-picks-two a b c d p q r s k e f g = g ∙ ap (λ z. chosen z (chosen d p q) (chosen d r s)) e ∙ ap (λ z. chosen (one_if a) (chosen z p q) (chosen z r s)) f
+picks-two a b c d p q r s k e f g =
+    g ∙ ap (λ z. chosen z (chosen d p q) (chosen d r s)) e ∙ ap (λ z. chosen (one_if a) (chosen z p q) (chosen z r s)) f
 
 at-width : (a b k l : ℕ) → k ≡ l → (a + b) % 2 ^ k ≡ (a + b) % 2 ^ l
 at-width a b k l e = ap (λ z. (a + b) % 2 ^ z) e
