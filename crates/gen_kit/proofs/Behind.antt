@@ -13,7 +13,8 @@ use Rattle.std.proofs.lemmas.Bool.{both_ways}
 pub front-and-rest : (name front : List ℕ) (n : ℕ) → n ≡ length front → bytes_eq (take n name) front ≡ true
     → name ≡ front ++ take (length name - n) (drop n name)
 front-and-rest name front n long same =
-    sym (take-append-drop n name) ∙ ap (λ z. z ++ drop n name) ((bytes_eq-Decides (take n name) front).0 same) ∙ ap (λ z. front ++ z) (sym (take_rest name n))
+    sym (take-append-drop n name) ∙ ap (λ z. z ++ drop n name) ((bytes_eq-Decides (take n name) front).0 same)
+    ∙ ap (λ z. front ++ z) (sym (take_rest name n))
 
 pub no-front : (name front rest : List ℕ) (n : ℕ) → n ≡ length front → bytes_eq (take n name) front ≡ false
     → name ≢ front ++ rest
@@ -34,7 +35,8 @@ differs a b other = go (bytes_eq a b) refl
 -- a name of a front and two numbers
 pub no-second : (name front a b rest : List ℕ) → name ≡ front ++ rest → ((r : List ℕ) → rest ≢ a ++ r)
     → false ≡ bytes_eq name (front ++ (a ++ b))
-no-second name front a b rest e other = differs name (front ++ (a ++ b)) (λ same. other b (append_cancel_left front rest (a ++ b) (sym e ∙ same)))
+no-second name front a b rest e other =
+    differs name (front ++ (a ++ b)) (λ same. other b (append_cancel_left front rest (a ++ b) (sym e ∙ same)))
 
 pub no-third : (name front a b rest more : List ℕ) → name ≡ front ++ rest → rest ≡ a ++ more
     → ((r : List ℕ) → more ≢ b ++ r) → false ≡ bytes_eq name (front ++ (a ++ (b ++ [])))
@@ -63,7 +65,8 @@ at-position [] (b ∷ ys) (suc i) k h = missing (drop i ys) (omega (arith, lengt
     missing (c ∷ cs) h = refl
 at-position (a ∷ xs) (b ∷ ys) zero k h = refl
 at-position (a ∷ xs) (b ∷ ys) (suc i) k h =
-    at-position xs ys i k (omega arith) ∙ ap (λ j. if same_at (slice_get xs i) (slice_get ys i) then difference (k + 1) (drop j xs) (drop j ys) else Some k) (add-one i)
+    at-position xs ys i k (omega arith)
+    ∙ ap (λ j. if same_at (slice_get xs i) (slice_get ys i) then difference (k + 1) (drop j xs) (drop j ys) else Some k) (add-one i)
     ∙ ap (λ j. if same_at (slice_get xs i) (slice_get ys i) then difference (k + 1) (drop j (a ∷ xs)) (drop j (b ∷ ys)) else Some k) (sym (add-one (suc i)))
 
 pub longer : (xs ys : List Port) (n k : ℕ) → n ≡ length ys → n < length xs

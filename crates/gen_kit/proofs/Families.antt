@@ -53,7 +53,8 @@ any-lone (suc n) c f le lone = go (λ h. any-lone n c f h lone) order
 pub rows-wide : (c : ℕ) (w : Widths) (f : ℕ → Expr) (n : ℕ) → ((k : ℕ) → k ≤ n → width_of w (f k) ≡ c)
     → widths_of w (row_parts f n) ≡ (n + 1) * c
 rows-wide c w f zero each = rw (each zero (omega arith)) (omega arith)
-rows-wide c w f (suc n) each = rw (each (suc n) (omega arith), rows-wide c w f n (λ k le. each k (omega arith))) (grind arith)
+rows-wide c w f (suc n) each =
+    rw (each (suc n) (omega arith), rows-wide c w f n (λ k le. each k (omega arith))) (grind arith)
 
 pub rows-shown : (c : ℕ) (w : Widths) (v : Values) (f : ℕ → Expr) (set : ℕ → Bool) (n : ℕ)
     → ((k : ℕ) → k ≤ n → width_of w (f k) ≡ c)
@@ -77,4 +78,5 @@ bit-or false false = refl
 pub or-bits : (w : Widths) (v : Values) (f : ℕ → Expr) (set : ℕ → Bool) (n : ℕ)
     → ((k : ℕ) → k ≤ n → value_of w v (f k) ≡ one_if (set k)) → value_of w v (or_upto n f) ≡ one_if (any_upto n set)
 or-bits w v f set zero e = e zero (omega arith)
-or-bits w v f set (suc n) e = rw (or-bits w v f set n (λ k le. e k (omega arith)), e (suc n) (omega arith)) (bit-or (any_upto n set) (set (suc n)))
+or-bits w v f set (suc n) e =
+    rw (or-bits w v f set n (λ k le. e k (omega arith)), e (suc n) (omega arith)) (bit-or (any_upto n set) (set (suc n)))

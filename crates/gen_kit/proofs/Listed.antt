@@ -32,4 +32,5 @@ pub port-at : (p : Plan) (i : ℕ) (h : Host) → slice_get p.hosts (i / 11) ≡
 port-at p i h e =
     let parts : i ≡ i / 11 * 11 + i % 11 = omega arith in
     let less : i % 11 < 11 = omega arith in
-    ap (slice_get (top_ports p)) parts ∙ in-block host_ports 11 (λ x. refl) p.hosts (i / 11) (i % 11) h e less ∙ slice_get-map (host_port h) port_kinds (i % 11) ∙ of-kind h (i % 11) less
+    ap (slice_get (top_ports p)) parts ∙ in-block host_ports 11 (λ x. refl) p.hosts (i / 11) (i % 11) h e less
+    ∙ slice_get-map (host_port h) port_kinds (i % 11) ∙ of-kind h (i % 11) less

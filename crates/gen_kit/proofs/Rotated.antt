@@ -32,17 +32,21 @@ chosen-set n p set x e = go (least n (λ i. nat_le p i && set i)) refl
     go : (o : Option ℕ) → least n (λ i. nat_le p i && set i) ≡ o
         → bit_and x ((0 + (2 ^ n - x)) % 2 ^ n) ≡ mask n (is_place (option_or o (least n set)))
     go None is =
-        let all : x ≡ mask n set = e ∙ ap (λ c. chosen c (mask n set) (mask n (λ i. nat_le p i && set i))) (zero-test _ (none-zero n (λ i. nat_le p i && set i) is)) in
+        let all : x ≡ mask n set =
+        e
+        ∙ ap (λ c. chosen c (mask n set) (mask n (λ i. nat_le p i && set i))) (zero-test _ (none-zero n (λ i. nat_le p i && set i) is)) in
         rw all (mask-least n set)
     go (Some k) is =
         let some = some-more n (λ i. nat_le p i && set i) k is in
-        let these : x ≡ mask n (λ i. nat_le p i && set i) = e ∙ ap (λ c. chosen c (mask n set) (mask n (λ i. nat_le p i && set i))) (more-test _ some.0) in
+        let these : x ≡ mask n (λ i. nat_le p i && set i) =
+        e ∙ ap (λ c. chosen c (mask n set) (mask n (λ i. nat_le p i && set i))) (more-test _ some.0) in
         rw these (mask-least n (λ i. nat_le p i && set i) ∙ ap (λ o. mask n (is_place o)) is)
 
 pub rotate-shown : (n : RotateNames) (h : ℕ)
     → GroupGives (rotate_group n h) (λ w v. (set : ℕ → Bool) (p : ℕ) → IsAsked n h v set p → Wins n h v (pick (h + 1) set p))
 rotate-shown n h w v held set p a =
-    let under : bit_and (v.net n.pointer) (v.net n.request) ≡ mask (h + 1) (λ i. nat_le p i && set i) = rw (a.pointer, a.request) (mask-and (h + 1) (nat_le p) set) in
+    let under : bit_and (v.net n.pointer) (v.net n.request) ≡ mask (h + 1) (λ i. nat_le p i && set i) =
+    rw (a.pointer, a.request) (mask-and (h + 1) (nat_le p) set) in
     held.nets.1.1.1.0 ∙ chosen-set (h + 1) p set (v.net n.some) (held.nets.1.0 ∙ rw (under, a.request) refl)
 
 pub pointer-moved : (pointer by : Name) (h : ℕ) (w : Widths) (v u : Values) (x : Option ℕ) (p : ℕ)
@@ -58,12 +62,15 @@ pointer-moved pointer by h w v u x p e width shown below before = go x shown bel
         → u.net pointer ≡ mask (h + 1) (nat_le (after x p))
     go None shown below =
         let empty : v.net by ≡ 0 = shown ∙ mask-none (h + 1) (is_place None) (λ i b. refl) in
-        moved ∙ ap (λ c. chosen c (v.net pointer) (2 ^ (h + 1) - 1 - bit_or (v.net by) ((v.net by + (2 ^ (h + 1) - 1)) % 2 ^ (h + 1)))) (zero-test _ empty) ∙ before
+        moved
+        ∙ ap (λ c. chosen c (v.net pointer) (2 ^ (h + 1) - 1 - bit_or (v.net by) ((v.net by + (2 ^ (h + 1) - 1)) % 2 ^ (h + 1)))) (zero-test _ empty)
+        ∙ before
     go (Some k) shown below =
         let less : k < h + 1 = below k refl in
         let lone : v.net by ≡ 2 ^ k = shown ∙ mask-one (h + 1) k less in
         let some : 0 < v.net by = omega (arith, lone, pow_pos k) in
-        moved ∙ ap (λ c. chosen c (v.net pointer) (2 ^ (h + 1) - 1 - bit_or (v.net by) ((v.net by + (2 ^ (h + 1) - 1)) % 2 ^ (h + 1)))) (more-test _ some)
+        moved
+        ∙ ap (λ c. chosen c (v.net pointer) (2 ^ (h + 1) - 1 - bit_or (v.net by) ((v.net by + (2 ^ (h + 1) - 1)) % 2 ^ (h + 1)))) (more-test _ some)
         ∙ ap (λ z. 2 ^ (h + 1) - 1 - bit_or z ((z + (2 ^ (h + 1) - 1)) % 2 ^ (h + 1))) lone ∙ mask-above (h + 1) k less
 
 pub rotate-kept : (n : RotateNames) (h : ℕ)

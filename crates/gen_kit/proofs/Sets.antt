@@ -79,7 +79,8 @@ mask-one (suc n) k below = go (λ h. mask-one n k h) (k == n) refl
         → one_if b * 2 ^ n + mask n (λ i. k == i) ≡ 2 ^ k
     go before true e =
         let same : k ≡ n = grind (arith, nat_tests) in
-        let rest : mask n (λ i. k == i) ≡ 0 = mask-none n (λ i. k == i) (λ i h. (let less : i < k = omega arith in grind (arith, nat_tests))) in
+        let rest : mask n (λ i. k == i) ≡ 0 =
+        mask-none n (λ i. k == i) (λ i h. (let less : i < k = omega arith in grind (arith, nat_tests))) in
         rw (rest, same) (omega arith)
     go before false e =
         let less : k < n = grind (arith, nat_tests) in
@@ -142,14 +143,17 @@ mask-least (suc n) a = go (mask-least n a) (least n a) refl (a n)
         let empty : mask n a ≡ 0 = none-zero n a is in
         let none : mask n (λ i. n == i) ≡ 0 = mask-none n (λ i. n == i) (λ i h. grind (arith, nat_tests, h)) in
         let self : (n == n) ≡ true = grind (arith, nat_tests) in
-        both _ _ (2 ^ n) (omega arith) (mod-eq_of_lt (omega (arith, pow_pos n, pow-next n)) ∙ omega (arith, pow-next n)) ∙ rw (self, none) (omega arith)
+        both _ _ (2 ^ n) (omega arith) (mod-eq_of_lt (omega (arith, pow_pos n, pow-next n)) ∙ omega (arith, pow-next n))
+        ∙ rw (self, none) (omega arith)
     go before (Some k) is b =
         let more = some-more n a k is in
         let small : 2 ^ n - mask n a < 2 ^ n = omega (arith, more.0, pow_pos n) in
         let plain : 0 + (2 ^ n - mask n a) ≡ 2 ^ n - mask n a = omega arith in
-        let reduced : (0 + (2 ^ n - mask n a)) % 2 ^ n ≡ 2 ^ n - mask n a = ap (λ z. z % 2 ^ n) plain ∙ mod-eq_of_lt small in
+        let reduced : (0 + (2 ^ n - mask n a)) % 2 ^ n ≡ 2 ^ n - mask n a =
+        ap (λ z. z % 2 ^ n) plain ∙ mod-eq_of_lt small in
         let under : bit_and (mask n a) (2 ^ n - mask n a) ≡ mask n (is_place (Some k)) =
-        second (mask n a) (2 ^ n - mask n a) ((0 + (2 ^ n - mask n a)) % 2 ^ n) (sym reduced) ∙ before ∙ ap (λ o. mask n (is_place o)) is in
+        second (mask n a) (2 ^ n - mask n a) ((0 + (2 ^ n - mask n a)) % 2 ^ n) (sym reduced) ∙ before
+        ∙ ap (λ o. mask n (is_place o)) is in
         let other : (k == n) ≡ false = grind (arith, nat_tests, more.1) in
         second _ _ _ (rest b more.0)
         ∙ and_block n (one_if b) (one_if (not b)) (mask n a) (2 ^ n - mask n a) (mask-lt n a) small
@@ -193,7 +197,8 @@ mask-above n k below = ap (λ z. 2 ^ n - 1 - z) (ap (λ z. bit_or (2 ^ k) z) les
     less : (2 ^ k + (2 ^ n - 1)) % 2 ^ n ≡ 2 ^ k - 1
     less =
         let e : 2 ^ k + (2 ^ n - 1) ≡ (2 ^ k - 1) + 2 ^ n = omega (arith, pow_pos k, pow_pos n) in
-        ap (λ z. z % 2 ^ n) e ∙ add-mod_right (2 ^ k - 1) (2 ^ n) ∙ mod-eq_of_lt (omega (arith, pow_pos k, pow-next k, bound))
+        ap (λ z. z % 2 ^ n) e ∙ add-mod_right (2 ^ k - 1) (2 ^ n)
+        ∙ mod-eq_of_lt (omega (arith, pow_pos k, pow-next k, bound))
 
     together : bit_or (2 ^ k) (2 ^ k - 1) ≡ 2 ^ suc k - 1
     together =
@@ -244,8 +249,10 @@ mask-part w l n a le =
 
     cut : mask n a % 2 ^ (w + l) ≡ mask (l + w) a
     cut =
-        ap (λ k. mask n a % 2 ^ k) swap ∙ ap (λ k. mask k a % 2 ^ (l + w)) whole ∙ ap (λ z. z % 2 ^ (l + w)) (mask-cat r (l + w) a)
-        ∙ mul-add-mod_self_right (mask r (λ i. a (l + w + i))) (2 ^ (l + w)) (mask (l + w) a) ∙ mod-eq_of_lt (mask-lt (l + w) a)
+        ap (λ k. mask n a % 2 ^ k) swap ∙ ap (λ k. mask k a % 2 ^ (l + w)) whole
+        ∙ ap (λ z. z % 2 ^ (l + w)) (mask-cat r (l + w) a)
+        ∙ mul-add-mod_self_right (mask r (λ i. a (l + w + i))) (2 ^ (l + w)) (mask (l + w) a)
+        ∙ mod-eq_of_lt (mask-lt (l + w) a)
 
 -- a member makes a number above 0
 pub mask-some : (n i : ℕ) (a : ℕ → Bool) → i < n → a i ≡ true → 0 < mask n a
