@@ -78,7 +78,8 @@ or-assoc (Some x) b c = refl
 first_some-append : (f : Place → Option DescFault) (xs ys : List Place)
     → first_some f (xs ++ ys) ≡ option_or (first_some f xs) (first_some f ys)
 first_some-append f [] ys = refl
-first_some-append f (x ∷ xs) ys = ap (option_or (f x)) (first_some-append f xs ys) ∙ or-assoc (f x) (first_some f xs) (first_some f ys)
+first_some-append f (x ∷ xs) ys =
+    ap (option_or (f x)) (first_some-append f xs ys) ∙ or-assoc (f x) (first_some f xs) (first_some f ys)
 
 elements-clean : {A : Type 0} (flaw : Flaw) (kind : Kind) (m : A → Members)
     → ((x : A) (i : ℕ) → place_fault flaw (record { kind = kind; element = i; members = m x }) ≡ None)
@@ -130,7 +131,8 @@ flaw-clean flaw d =
     let rs = element_tables Range 0 (items_by range_data d.ranges) in
     rw (top-clean flaw d)
     (first_some-append f ds (ts ++ rs) ∙ ap (λ o. option_or o (first_some f (ts ++ rs))) (elements-clean flaw Domain domain_members (domain-clean flaw) 0 d.domains)
-    ∙ first_some-append f ts rs ∙ ap (λ o. option_or o (first_some f rs)) (elements-clean flaw Tile tile_members (tile-clean flaw) 0 d.tiles)
+    ∙ first_some-append f ts rs
+    ∙ ap (λ o. option_or o (first_some f rs)) (elements-clean flaw Tile tile_members (tile-clean flaw) 0 d.tiles)
     ∙ elements-clean flaw Range range_members (range-clean flaw) 0 d.ranges)
 
 weighted-clean : (d : Draft) → table_fault (document (weighted d)) ≡ None

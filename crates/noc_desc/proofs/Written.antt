@@ -45,7 +45,8 @@ pub array-more : {A : Type 0} (f : A → Data) (xs : List A) (i : ℕ) (z : A) (
     → items_view vs ≡ items_by f (take i xs) → view v ≡ f (get_or xs i z)
     → items_view (vs ++ v ∷ []) ≡ items_by f (take (i + 1) xs)
 array-more f xs i z vs v less so_far is =
-    items_view-push vs v ∙ ap (λ t. push_item t (view v)) so_far ∙ ap (push_item (items_by f (take i xs))) is ∙ by-more f xs i z less
+    items_view-push vs v ∙ ap (λ t. push_item t (view v)) so_far ∙ ap (push_item (items_by f (take i xs))) is
+    ∙ by-more f xs i z less
 
 -- all elements
 pub array-whole : {A : Type 0} (f : A → Data) (xs : List A) (i : ℕ) (v : Vec Value Global) → length xs ≤ i
