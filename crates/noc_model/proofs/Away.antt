@@ -54,8 +54,10 @@ unfolding route
 route-home p n dest positive inside there e =
     let way : Way = way_from p.torus 0 p.dims (coords_in p.dims n) (coords_in p.dims dest) in
     let local : way ≡ Local = sym (way_of-port_of way) ∙ ap way_of e in
-    let same = no_way p.torus 0 p.dims (coords_in p.dims n) (coords_in p.dims dest) (within-coords_in p.dims n positive) (within-coords_in p.dims dest positive) local in
-    sym (tile_in-coords_in p.dims n positive inside) ∙ ap (tile_in p.dims) same ∙ tile_in-coords_in p.dims dest positive there
+    let same =
+    no_way p.torus 0 p.dims (coords_in p.dims n) (coords_in p.dims dest) (within-coords_in p.dims n positive) (within-coords_in p.dims dest positive) local in
+    sym (tile_in-coords_in p.dims n positive inside) ∙ ap (tile_in p.dims) same
+    ∙ tile_in-coords_in p.dims dest positive there
 
 -- ---- packets go on
 

@@ -85,7 +85,9 @@ within-says low high n h = let parts = both (nat_le low n) (nat_le n high) h in 
 recursion : {X : Type 0} (p : X → Bool) (P : X → Type 0) → ((x : X) → p x ≡ true → P x) → (xs : List X)
     → list_all p xs ≡ true → AllByRecursion P xs
 recursion p P each [] h = tt
-recursion p P each (x ∷ xs) h = let parts = both (p x) (list_all p xs) h in (each x parts.0, recursion p P each xs parts.1)
+recursion p P each (x ∷ xs) h =
+    let parts = both (p x) (list_all p xs) h in
+    (each x parts.0, recursion p P each xs parts.1)
 
 all : {X : Type 0} (p : X → Bool) (P : X → Type 0) → ((x : X) → p x ≡ true → P x) → (xs : List X) → list_all p xs ≡ true
     → All P xs
@@ -160,7 +162,8 @@ sound p s l =
     let l2 = both (list_all (λ (x : DomainPart). is_word x.name) p.domains) _ l1.1 in
     let l3 = both (pairs differ p.domains) _ l2.1 in
     let l4 = both (list_all (λ (x : DomainPart). within 1 most_channels x.channels) p.domains) _ l3.1 in
-    let l5 = both (list_all (λ (h : Host). nat_lt h.tile (tiles p) && nat_lt h.domain (length p.domains)) p.hosts) _ l4.1 in
+    let l5 =
+    both (list_all (λ (h : Host). nat_lt h.tile (tiles p) && nat_lt h.domain (length p.domains)) p.hosts) _ l4.1 in
     let l6 = both (pairs is_before p.hosts) _ l5.1 in
     let l7 = both (list_all (is_range_in (tiles p)) p.ranges) _ l6.1 in
     let l8 = both (pairs are_apart p.ranges) _ l7.1 in

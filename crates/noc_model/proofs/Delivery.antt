@@ -100,10 +100,12 @@ given-next p d k word current c = go (current == c) refl
     away e (inr none) = choose (next == c) none
 
     Lead : Bool → Type 0
-    Lead b = ArePackets (if b then given_to k else None) (if b then option_to_list (entry p d k word) else []) (if next == c then to else None)
+    Lead b =
+        ArePackets (if b then given_to k else None) (if b then option_to_list (entry p d k word) else []) (if next == c then to else None)
 
     go : (b : Bool) → (current == c) ≡ b → Lead (current == c)
-    go true e = subst Lead (sym e) (subst (ArePackets (given_to k) (option_to_list (entry p d k word))) (here e (turn p d current k word)) (entry-packets p d k word))
+    go true e =
+        subst Lead (sym e) (subst (ArePackets (given_to k) (option_to_list (entry p d k word))) (here e (turn p d current k word)) (entry-packets p d k word))
     go false e = subst Lead (sym e) (away e (turn p d current k word))
 
 -- ---- a state
@@ -138,7 +140,8 @@ fits p d t s g n (suc port) c f fs sound reached packed inside below is = go (ne
         let ends = link-from p n (suc port) m (positive p.dims sound.sides) inside e in
         let there = neighbour-inside p n (suc port) m (positive p.dims sound.sides) e in
         let leads = packed.link m (opposite (suc port)) n c there ends.back below in
-        let leads' = subst (λ q. ArePackets (g n q c) ((s n).queue q c ++ on_way p.stages ((s m).row (opposite (suc port))) c) (entry_at p d (s m) (g m) (opposite (suc port)) c)) ends.is_opposite leads in
+        let leads' =
+        subst (λ q. ArePackets (g n q c) ((s n).queue q c ++ on_way p.stages ((s m).row (opposite (suc port))) c) (entry_at p d (s m) (g m) (opposite (suc port)) c)) ends.is_opposite leads in
         first-comes (g n (suc port) c) (entry_at p d (s m) (g m) (opposite (suc port)) c) ((s n).queue (suc port) c) (on_way p.stages ((s m).row (opposite (suc port))) c) fs f leads' is
 
 -- ---- the step
@@ -163,8 +166,10 @@ local-next : (p : Plan) (d n : ℕ) (t : ℤ) (s : Tile) (i : TileIn) (c : ℕ) 
     → ArePackets (moved_on (leaves p d n t s i 0 c) (s.queue 0 c) a) ((tile_step p d n t s i).queue 0 c) (given (tile_step p d n t s i) c)
 unfolding tile_step
 local-next p d n t s i c a leads =
-    let left = packets-left (leaves p d n t s i 0 c) (s.queue 0 c) [] a (given s c) (leaves-front p d n t s i 0 c) (subst (λ xs. ArePackets a xs (given s c)) (sym (append-nil (s.queue 0 c))) leads) in
-    let left' = subst (λ xs. ArePackets (moved_on (leaves p d n t s i 0 c) (s.queue 0 c) a) xs (given s c)) (append-nil (drop (one_if (leaves p d n t s i 0 c)) (s.queue 0 c))) left in
+    let left =
+    packets-left (leaves p d n t s i 0 c) (s.queue 0 c) [] a (given s c) (leaves-front p d n t s i 0 c) (subst (λ xs. ArePackets a xs (given s c)) (sym (append-nil (s.queue 0 c))) leads) in
+    let left' =
+    subst (λ xs. ArePackets (moved_on (leaves p d n t s i 0 c) (s.queue 0 c) a) xs (given s c)) (append-nil (drop (one_if (leaves p d n t s i 0 c)) (s.queue 0 c))) left in
     packets-append (moved_on (leaves p d n t s i 0 c) (s.queue 0 c) a) (given s c) _ (drop (one_if (leaves p d n t s i 0 c)) (s.queue 0 c)) (comes_in p d s i 0 c) left'
     (given-next p d s.packet (word_in p s i) s.current c)
 
@@ -180,8 +185,10 @@ link-next p d t s x n o m w a b e some link leads out =
     let rest : List Flit = drop (one_if gone) ((s m).queue (opposite o) w) in
     let row : ℕ → Option LinkFlit = (s n).row o in
     let new : Option LinkFlit = sent p d n t (s n) (fed p d s x n) o in
-    let left = packets-left gone ((s m).queue (opposite o) w) (on_way p.stages row w) a b (leaves-front p d m t (s m) (fed p d s x m) (opposite o) w) leads in
-    let all = packets-append (moved_on gone ((s m).queue (opposite o) w) a) b e (rest ++ on_way p.stages row w) (flit_on new w) left out in
+    let left =
+    packets-left gone ((s m).queue (opposite o) w) (on_way p.stages row w) a b (leaves-front p d m t (s m) (fed p d s x m) (opposite o) w) leads in
+    let all =
+    packets-append (moved_on gone ((s m).queue (opposite o) w) a) b e (rest ++ on_way p.stages row w) (flit_on new w) left out in
     subst (λ xs. ArePackets (moved_on gone ((s m).queue (opposite o) w) a) xs e)
     (append_assoc rest (on_way p.stages row w) (flit_on new w)
     ∙ ap (λ xs. rest ++ xs) (sym (on_way-part p.stages new row w some))
@@ -198,9 +205,12 @@ eject-home p d n t s i g x sound inside stand home e =
     let by = sent-by p d n t s i 0 x e in
     let ready = grant-ready p d n t s i by.port by.by by.granted in
     let list = front-list (s.queue by.port by.by.channel) x.flit by.is_front in
-    let stands = subst (FrontStands p n (g by.port by.by.channel) (s.queue by.port by.by.channel)) ready.active (stand.stands by.port by.by.channel ready.in_range) in
-    let names : route p n x.flit.dest ≡ 0 = to (g by.port by.by.channel) (s.queue by.port by.by.channel) list.0 by.by.out by.by.to list.1 by.out (stand.fits by.port by.by.channel x.flit list.0 ready.in_range list.1) stands in
-    let there = hosts-inside p x.flit.dest d sound (first-home list.0 (s.queue by.port by.by.channel) list.1 (home by.port by.by.channel)) in
+    let stands =
+    subst (FrontStands p n (g by.port by.by.channel) (s.queue by.port by.by.channel)) ready.active (stand.stands by.port by.by.channel ready.in_range) in
+    let names : route p n x.flit.dest ≡ 0 =
+    to (g by.port by.by.channel) (s.queue by.port by.by.channel) list.0 by.by.out by.by.to list.1 by.out (stand.fits by.port by.by.channel x.flit list.0 ready.in_range list.1) stands in
+    let there =
+    hosts-inside p x.flit.dest d sound (first-home list.0 (s.queue by.port by.by.channel) list.1 (home by.port by.by.channel)) in
     sym (route-home p n x.flit.dest (positive p.dims sound.sides) inside there names)
   where
     to : (a : Option ℕ) (qs gs : List Flit) (o w : ℕ) → qs ≡ x.flit ∷ gs → o ≡ 0 → may_come a x.flit ≡ true

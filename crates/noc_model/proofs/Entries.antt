@@ -26,7 +26,8 @@ pub entry-holder : (p : Plan) (d n : ℕ) (s : Tile) (g : ℕ → ℕ → Option
 entry-holder p d n s g o w port c right is =
     let within = input-within p d port c is.below in
     ap (option_and_then (λ k. g (k / link_channels p d) (k % link_channels p d))) (holder_of-is p d n s o w port c right is)
-    ∙ ap (λ k. g k ((port * link_channels p d + c) % link_channels p d)) (port-place p d port c within) ∙ ap (g port) (channel-place p d port c within)
+    ∙ ap (λ k. g k ((port * link_channels p d + c) % link_channels p d)) (port-place p d port c within)
+    ∙ ap (g port) (channel-place p d port c within)
 
 pub entry-free : (p : Plan) (d n : ℕ) (s : Tile) (g : ℕ → ℕ → Option ℕ) (o w : ℕ) → IsHeldTile p d n s
     → s.held o w ≡ false → entry_at p d s g o w ≡ None
@@ -104,7 +105,8 @@ new-holder p d n t s i g o w port c stand free is = go (holder-from p d n t s i 
       where
         cases : Stays p d n t s i port c (s.stage port c) o w ⊎ Wins p d n s port c (s.stage port c) o w
             → next_stand p d n t s i g port c ≡ None
-        cases (inl stays) = absurd (let used = stand.held.held o w port c (old-holder p d s o w port c came.inside came.below stays.was) in cc (used, free))
+        cases (inl stays) =
+            absurd (let used = stand.held.held o w port c (old-holder p d s o w port c came.inside came.below stays.was) in cc (used, free))
         cases (inr wins) = won-stands p d n t s i g port c o wins.was (stand.stands port c came.below)
 
 -- nothing goes out: where the entry stands stays
@@ -133,7 +135,8 @@ entry-quiet p d n t s i g o w stand off = go (s.held o w) refl
     go false e = entry-free p d n s g o w stand.held e ∙ sym (after (next.held o w) refl e)
     go true e =
         let has = stand.held.holder o w e in
-        let stays = holder-stays p d n t s i o w has.port has.channel has.is_holder (tail_on-off (sent p d n t s i o) w off) in
+        let stays =
+        holder-stays p d n t s i o w has.port has.channel has.is_holder (tail_on-off (sent p d n t s i o) w off) in
         entry-holder p d n s g o w has.port has.channel stand.held has.is_holder
         ∙ sym (entry-holder p d n next (next_stand p d n t s i g) o w has.port has.channel stand.held_after stays
         ∙ stood has.port has.channel has.is_holder.active (leaves p d n t s i has.port has.channel) refl)
@@ -166,7 +169,8 @@ entry-next p d n t s i g o w stand = go (sent p d n t s i o) refl (is_on (sent p
         let port : ℕ = by.port in
         let c : ℕ = by.by.channel in
         let same : x.channel ≡ w = grind (arith, nat_tests, on) in
-        let active : s.stage port c ≡ Active o w = ready.active ∙ ap (λ k. Active k by.by.to) by.out ∙ ap (Active o) (by.to ∙ same) in
+        let active : s.stage port c ≡ Active o w =
+        ready.active ∙ ap (λ k. Active k by.by.to) by.out ∙ ap (Active o) (by.to ∙ same) in
         let holds : IsHolder p d s o w port c = old-holder p d s o w port c by.inside ready.in_range active in
         let list = front-list (s.queue port c) x.flit by.is_front in
         let left = granted-leaves p d n t s i port by.by by.granted in
@@ -202,9 +206,11 @@ entry-next p d n t s i g o w stand = go (sent p d n t s i o) refl (is_on (sent p
                         cases : Stays p d n t s i has.port has.channel (s.stage has.port has.channel) o w ⊎ Wins p d n s has.port has.channel (s.stage has.port has.channel) o w
                             → ⊥
                         cases (inl stays) =
-                            let one = stand.held.one o w has.port has.channel port c (old-holder p d s o w has.port has.channel came.inside came.below stays.was) holds in
+                            let one =
+                            stand.held.one o w has.port has.channel port c (old-holder p d s o w has.port has.channel came.inside came.below stays.was) holds in
                             let leaves_tail : (leaves p d n t s i port c && is_tail (front (s.queue port c))) ≡ true =
-                            ap (λ b. b && is_tail (front (s.queue port c))) left ∙ ap (λ fs. is_tail (front fs)) list ∙ e in
+                            ap (λ b. b && is_tail (front (s.queue port c))) left ∙ ap (λ fs. is_tail (front fs)) list
+                            ∙ e in
                             cc (leaves_tail, stays.no_tail, one.0, one.1)
                         cases (inr wins) =
                             let free = taken-free p d n s o w wins.takes in
@@ -219,7 +225,8 @@ entry-next p d n t s i g o w stand = go (sent p d n t s i o) refl (is_on (sent p
 
     go : (x : Option LinkFlit) → sent p d n t s i o ≡ x → (b : Bool) → is_on (sent p d n t s i o) w ≡ b
         → Lead (flit_on (sent p d n t s i o) w)
-    go x is false off = subst Lead (sym (flit_on-off (sent p d n t s i o) w off)) (entry-quiet p d n t s i g o w stand off)
+    go x is false off =
+        subst Lead (sym (flit_on-off (sent p d n t s i o) w off)) (entry-quiet p d n t s i g o w stand off)
     go None is true on = absurd (let none = ap (λ y. is_on y w) is in cc (none, on))
     go (Some x) is true on =
         let here : (x.channel == w) ≡ true = sym (ap (λ y. is_on y w) is) ∙ on in

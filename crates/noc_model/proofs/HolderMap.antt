@@ -63,7 +63,8 @@ pub holder_of-holds : (p : Plan) (d : ℕ) (s : Tile) (o w k : ℕ) → holder_o
     → IsHolder p d s o w (k / link_channels p d) (k % link_channels p d)
 holder_of-holds p d s o w k e =
     let member = least-member (ports p * link_channels p d) (is_holding p d s o w) k e in
-    let both = parts (nat_lt (k % link_channels p d) (in_channels p d (k / link_channels p d))) (goes_on (s.stage (k / link_channels p d) (k % link_channels p d)) o w) member.1 in
+    let both =
+    parts (nat_lt (k % link_channels p d) (in_channels p d (k / link_channels p d))) (goes_on (s.stage (k / link_channels p d) (k % link_channels p d)) o w) member.1 in
     record {
       inside = port-below p d k member.0;
       below = low (k % link_channels p d) (in_channels p d (k / link_channels p d)) both.0;
@@ -84,8 +85,10 @@ holder_of-is p d n s o w port c right is =
     let inside = place-below p d port c is.inside within in
     let found = least-some (ports p * link_channels p d) (is_holding p d s o w) place inside
     (holding-at p d s o w port c place is (port-place p d port c within) (channel-place p d port c within)) in
-    let same = right.one o w (found.0 / link_channels p d) (found.0 % link_channels p d) port c (holder_of-holds p d s o w found.0 found.1) is in
-    found.1 ∙ ap Some (sym (place-input p d found.0) ∙ ap (λ k. k * link_channels p d + found.0 % link_channels p d) same.0 ∙ ap (λ k. port * link_channels p d + k) same.1)
+    let same =
+    right.one o w (found.0 / link_channels p d) (found.0 % link_channels p d) port c (holder_of-holds p d s o w found.0 found.1) is in
+    found.1
+    ∙ ap Some (sym (place-input p d found.0) ∙ ap (λ k. k * link_channels p d + found.0 % link_channels p d) same.0 ∙ ap (λ k. port * link_channels p d + k) same.1)
 
 -- a channel is held exactly where the map gives a place
 pub held-is_some : (p : Plan) (d n : ℕ) (s : Tile) (o w : ℕ) → IsHeldTile p d n s

@@ -72,10 +72,13 @@ came-from p d n t s i port c (Active to v) o w e = go (leaves p d n t s i port c
 pub taken-free : (p : Plan) (d n : ℕ) (s : Tile) (o w : ℕ) → taken_channel p d n s o ≡ Some w → s.held o w ≡ false
 unfolding taken_channel
 taken-free p d n s o w e =
-    let got = then-is (λ k. free_for p d n s o (k / link_channels p d) (k % link_channels p d)) (winner p d n s o) w e in
+    let got =
+    then-is (λ k. free_for p d n s o (k / link_channels p d) (k % link_channels p d)) (winner p d n s o) w e in
     let class : ℕ = class_of p d n (got.0 / link_channels p d) (got.0 % link_channels p d) o in
-    let found = option-map-is (λ j. class * channels p d + j) (least (at_local o 1 (channels p d)) (λ j. not (s.held o (class * channels p d + j)))) w got.2 in
-    let member = least-member (at_local o 1 (channels p d)) (λ j. not (s.held o (class * channels p d + j))) found.0 found.1 in
+    let found =
+    option-map-is (λ j. class * channels p d + j) (least (at_local o 1 (channels p d)) (λ j. not (s.held o (class * channels p d + j)))) w got.2 in
+    let member =
+    least-member (at_local o 1 (channels p d)) (λ j. not (s.held o (class * channels p d + j))) found.0 found.1 in
     subst (λ v. s.held o v ≡ false) found.2 (free (s.held o (class * channels p d + found.0)) member.1)
   where
     free : (b : Bool) → not b ≡ true → b ≡ false
@@ -165,7 +168,8 @@ unfolding grant
 granted-chosen p d n t s i port g e =
     let got = then-is (λ h. granted_to (chosen p d n t s i h.out) port h) (asked p d n t s i port) g e in
     let same : got.0 ≡ g = granted_to-is (chosen p d n t s i got.0.out) port got.0 g got.2 in
-    ap (λ (x : Grant). chosen p d n t s i x.out) (sym same) ∙ granted_to-port (chosen p d n t s i got.0.out) port got.0 g got.2
+    ap (λ (x : Grant). chosen p d n t s i x.out) (sym same)
+    ∙ granted_to-port (chosen p d n t s i got.0.out) port got.0 g got.2
 
 -- what is granted is sent
 pub granted-sent : (p : Plan) (d n : ℕ) (t : ℤ) (s : Tile) (i : TileIn) (port : ℕ) (g : Grant)
@@ -225,9 +229,11 @@ winner-holds : (p : Plan) (d n : ℕ) (t : ℤ) (s : Tile) (i : TileIn) (o w : �
     → HasHolder p d (tile_step p d n t s i) o w
 unfolding tile_step taken_channel
 winner-holds p d n t s i o w e =
-    let got = then-is (λ k. free_for p d n s o (k / link_channels p d) (k % link_channels p d)) (winner p d n s o) w e in
+    let got =
+    then-is (λ k. free_for p d n s o (k / link_channels p d) (k % link_channels p d)) (winner p d n s o) w e in
     let waits = winner-waits p d n s o got.0 got.1 in
-    let place : got.0 / link_channels p d * link_channels p d + got.0 % link_channels p d ≡ got.0 = place-input p d got.0 in
+    let place : got.0 / link_channels p d * link_channels p d + got.0 % link_channels p d ≡ got.0 =
+    place-input p d got.0 in
     record {
       port = got.0 / link_channels p d;
       channel = got.0 % link_channels p d;
@@ -254,7 +260,8 @@ pub record WasOrWins (p : Plan) (d n : ℕ) (t : ℤ) (s : Tile) (i : TileIn) (p
 pub holder-from : (p : Plan) (d n : ℕ) (t : ℤ) (s : Tile) (i : TileIn) (o w port c : ℕ)
     → IsHolder p d (tile_step p d n t s i) o w port c → WasOrWins p d n t s i port c o w
 unfolding tile_step
-holder-from p d n t s i o w port c is = record { inside = is.inside; below = is.below; from = came-from p d n t s i port c (s.stage port c) o w is.active }
+holder-from p d n t s i o w port c is =
+    record { inside = is.inside; below = is.below; from = came-from p d n t s i port c (s.stage port c) o w is.active }
 
 or-left : (a b : Bool) → a ≡ true → (a || b) ≡ true
 or-left true b e = refl
@@ -319,7 +326,8 @@ held-step p d n t s i right empty = record {
         go (inl stays) =
             let old = old-holder p d s o w port c is.inside is.below stays.was in
             or-left _ _ (both (s.held o w) (is_tail_on (sent p d n t s i o) w) (right.held o w port c old) (not-freed p d n t s i o w port c right old stays.no_tail))
-        go (inr wins) = or-right (s.held o w && not (is_tail_on (sent p d n t s i o) w)) (is_place (taken_channel p d n s o) w) (ap (λ k. is_place k w) wins.takes ∙ same w)
+        go (inr wins) =
+            or-right (s.held o w && not (is_tail_on (sent p d n t s i o) w)) (is_place (taken_channel p d n s o) w) (ap (λ k. is_place k w) wins.takes ∙ same w)
 
     one-after : (o w port c port' c' : ℕ) → WasOrWins p d n t s i port c o w → WasOrWins p d n t s i port' c' o w
         → (port ≡ port') × (c ≡ c')
@@ -335,11 +343,13 @@ held-step p d n t s i right empty = record {
         go : Stays p d n t s i port c (s.stage port c) o w ⊎ Wins p d n s port c (s.stage port c) o w
             → Stays p d n t s i port' c' (s.stage port' c') o w ⊎ Wins p d n s port' c' (s.stage port' c') o w
             → (port ≡ port') × (c ≡ c')
-        go (inl a) (inl b) = right.one o w port c port' c' (old-holder p d s o w port c is.inside is.below a.was) (old-holder p d s o w port' c' is'.inside is'.below b.was)
+        go (inl a) (inl b) =
+            right.one o w port c port' c' (old-holder p d s o w port c is.inside is.below a.was) (old-holder p d s o w port' c' is'.inside is'.below b.was)
         go (inl a) (inr b) = absurd (taken-held port c is.inside is.below a.was b.takes)
         go (inr a) (inl b) = absurd (taken-held port' c' is'.inside is'.below b.was a.takes)
         go (inr a) (inr b) =
-            let e : Some (port * link_channels p d + c) ≡ Some (port' * link_channels p d + c') = sym a.place ∙ b.place in
+            let e : Some (port * link_channels p d + c) ≡ Some (port' * link_channels p d + c') =
+            sym a.place ∙ b.place in
             place-one p d port c port' c' (input-within p d port c is.below) (input-within p d port' c' is'.below) (cc (e))
 
     has-after : (o w : ℕ)

@@ -29,7 +29,8 @@ unfolding everything quiet_for
 unreal_places_are_filled = refl
 
 abbrev IsEmptyAt : ℕ → ℕ → ℕ → Type 0
-IsEmptyAt n port c = ((between n).queue port c ≡ []) × ((between n).stage port c ≡ Idle) × ((between n).row port c ≡ None)
+IsEmptyAt n port c =
+    ((between n).queue port c ≡ []) × ((between n).stage port c ≡ Idle) × ((between n).row port c ≡ None)
 
 empty-at : (n port c : ℕ) → n < 2 → port < 3 → c < 1 → IsEmptyAt n port c
 unfolding everything quiet_for
@@ -76,7 +77,8 @@ only-take e payload inside low high is = go inside.0 inside.1 inside.2
     go zero less at = absurd (let early : 0 ≡ e.cycle = ap (λ (y : Event). y.cycle) at in omega arith)
     go (suc zero) less at = absurd (let early : 9 ≡ e.cycle = ap (λ (y : Event). y.cycle) at in omega arith)
     go (suc (suc zero)) less at = (sym (ap (λ (y : Event). y.cycle) at), sym (ap (λ (y : Event). y.tile) at))
-    go (suc (suc (suc zero))) less at = absurd (let kind : Got (record { head = true; tail = true; payload = 0xb }) ≡ Take payload = ap (λ (y : Event). y.kind) at ∙ is in cc)
+    go (suc (suc (suc zero))) less at =
+        absurd (let kind : Got (record { head = true; tail = true; payload = 0xb }) ≡ Take payload = ap (λ (y : Event). y.kind) at ∙ is in cc)
     go (suc (suc (suc (suc k)))) less at = absurd (omega arith)
 
 -- whether tile n hears in each cycle

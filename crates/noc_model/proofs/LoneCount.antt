@@ -45,7 +45,8 @@ listed-active : (p : Plan) (d : ℕ) (xs : ℕ → Input) (f : Flit) (n port c k
     → IsActive p d (state_after p d xs (suc (suc k))) f n (route p n f.dest)
 listed-active p d xs f n port c k calm is =
     let routed = idle-routed p d k (state_after p d xs k) (xs k) f n port c (calm k (omega arith) (omega arith)) is in
-    let active = routed-active p d (suc k) (state_after p d xs (suc k)) (xs (suc k)) f n port c (route p n f.dest) (calm (suc k) (omega arith) (omega arith)) routed in
+    let active =
+    routed-active p d (suc k) (state_after p d xs (suc k)) (xs (suc k)) f n port c (route p n f.dest) (calm (suc k) (omega arith) (omega arith)) routed in
     record { port = port; channel = c; to = active.0; listed = active.1 }
 
 -- a hop from one link to the next
@@ -56,11 +57,15 @@ hops : (p : Plan) (d : ℕ) (xs : ℕ → Input) (f : Flit) (n o m k : ℕ) → 
 hops p d xs f n o m k sound tail calm is link owned =
     let some = sound.stages.0 in
     let now : IsCalm p d k (state_after p d xs k) (xs k) = calm k (omega arith) (omega arith) in
-    let sent = active-sent p d k (state_after p d xs k) (xs k) f n is.port is.channel o is.to m now is.listed tail link owned in
-    let last = shifts p d xs f n o m is.to (suc k) (p.stages - 1) (omega (arith, some)) (λ q low high. calm q (omega arith) (omega (arith, some))) sent in
+    let sent =
+    active-sent p d k (state_after p d xs k) (xs k) f n is.port is.channel o is.to m now is.listed tail link owned in
+    let last =
+    shifts p d xs f n o m is.to (suc k) (p.stages - 1) (omega (arith, some)) (λ q low high. calm q (omega arith) (omega (arith, some))) sent in
     let q : ℕ = suc k + (p.stages - 1) in
-    let come = linked-arrived p d q (state_after p d xs q) (xs q) f n o m is.to (p.stages - 1) (calm q (omega (arith, some)) (omega (arith, some))) last (omega (arith, some)) in
-    let active = listed-active p d xs f m (opposite o) is.to (suc q) (λ y low high. calm y (omega (arith, some)) (omega (arith, some))) come in
+    let come =
+    linked-arrived p d q (state_after p d xs q) (xs q) f n o m is.to (p.stages - 1) (calm q (omega (arith, some)) (omega (arith, some))) last (omega (arith, some)) in
+    let active =
+    listed-active p d xs f m (opposite o) is.to (suc q) (λ y low high. calm y (omega (arith, some)) (omega (arith, some))) come in
     let e : suc (suc (suc q)) ≡ k + hop p = omega (arith, some) in
     subst (λ y. IsActive p d (state_after p d xs y) f m (route p m f.dest)) e active
 
@@ -90,7 +95,8 @@ waited p d xs f n o k (suc a) link owned calm is =
         let e : k ≡ k + 0 = omega arith in
         record { cycles = 0; few = omega arith; active = subst (λ q. IsActive p d (state_after p d xs q) f n o) e is; owned = subst (λ q. owner p n o (pos q) ≡ d) e own }
     go (inr other) rest =
-        let stays = active-waits p d k (state_after p d xs k) (xs k) f n is.port is.channel o is.to (calm k (omega arith) (omega arith)) is.listed link other in
+        let stays =
+        active-waits p d k (state_after p d xs k) (xs k) f n is.port is.channel o is.to (calm k (omega arith) (omega arith)) is.listed link other in
         let later = rest (record { port = is.port; channel = is.channel; to = is.to; listed = stays }) in
         let e : suc k + later.cycles ≡ k + suc later.cycles = omega arith in
         record {
@@ -109,7 +115,8 @@ pub record ComesHome (p : Plan) (d : ℕ) (xs : ℕ → Input) (f : Flit) (first
 
 -- the first wait is among the waits that are left, or is over
 abbrev pub MayWait : Plan → ℕ → ℕ → ℕ → ℕ → List ℕ → ℕ → Type 0
-MayWait p d dest n k ms left = (waits p dest n ms ≤ left) ⊎ ((owner p n (route p n dest) (pos k) ≡ d) × (waits p dest n ms ≤ left + 1))
+MayWait p d dest n k ms left =
+    (waits p dest n ms ≤ left) ⊎ ((owner p n (route p n dest) (pos k) ≡ d) × (waits p dest n ms ≤ left + 1))
 
 -- the flit waits for the first link of the rest of the route, and then has some waits left
 record Starts (p : Plan) (d : ℕ) (xs : ℕ → Input) (f : Flit) (n k left : ℕ) (ms : List ℕ) : Type 0 where
@@ -137,9 +144,11 @@ starts p d xs f n k left ms sound there link some calm is (inr straight_on) =
     }
 starts p d xs f n k left ms sound there link some calm is (inl fresh) =
     let more : left ≡ left - 1 + 1 = omega (arith, some, fresh) in
-    let all : (length p.slots - 1) * left ≡ (length p.slots - 1) * (left - 1) + (length p.slots - 1) = turn (length p.slots - 1) left (left - 1) more in
+    let all : (length p.slots - 1) * left ≡ (length p.slots - 1) * (left - 1) + (length p.slots - 1) =
+    turn (length p.slots - 1) left (left - 1) more in
     let soon = own-soon p d n (route p n f.dest) k sound there link in
-    let wait = waited p d xs f n (route p n f.dest) k soon.0 link soon.2 (λ q low high. calm q low (omega (arith, all, soon.1, high))) is in
+    let wait =
+    waited p d xs f n (route p n f.dest) k soon.0 link soon.2 (λ q low high. calm q low (omega (arith, all, soon.1, high))) is in
     record {
       cycles = wait.cycles;
       next = left - 1;
@@ -162,7 +171,8 @@ next-wait p d dest n m k next ms sound link owned few = go (hop-goes p n dest m 
     go (straight none same level some) =
         let zero_wraps : one_if (is_wrap p n (route p n dest)) ≡ 0 = ap one_if none in
         inr (
-          ap (λ o. owner p m o (pos (k + hop p))) same ∙ wave-sound p n (route p n dest) m (pos k) sound link none ∙ owned,
+          ap (λ o. owner p m o (pos (k + hop p))) same ∙ wave-sound p n (route p n dest) m (pos k) sound link none
+              ∙ owned,
           omega (arith, few, zero_wraps, level),
         )
     go (wraps_round is low) =
@@ -190,9 +200,11 @@ pub along : (p : Plan) (d : ℕ) (xs : ℕ → Input) (f : Flit) (ms : List ℕ)
 along p d xs f [] n k left sound there tail hosted route_is may calm is =
     let home = home-route p f.dest in
     let out : route p n f.dest ≡ 0 = ap (λ q. route p q f.dest) route_is ∙ home in
-    let listed : IsListed p d (state_after p d xs k) f n is.port is.channel (Active 0 is.to) = subst (λ o. IsListed p d (state_after p d xs k) f n is.port is.channel (Active o is.to)) out is.listed in
+    let listed : IsListed p d (state_after p d xs k) f n is.port is.channel (Active 0 is.to) =
+    subst (λ o. IsListed p d (state_after p d xs k) f n is.port is.channel (Active o is.to)) out is.listed in
     let hosted_here : hosts p n d ≡ true = ap (λ q. hosts p q d) route_is ∙ hosted in
-    let got = active-ejected p d k (state_after p d xs k) (xs k) f n is.port is.channel is.to (calm k (omega arith) (omega arith)) listed hosted_here in
+    let got =
+    active-ejected p d k (state_after p d xs k) (xs k) f n is.port is.channel is.to (calm k (omega arith) (omega arith)) listed hosted_here in
     record {
       cycle = suc k;
       from = omega arith;
@@ -202,7 +214,8 @@ along p d xs f [] n k left sound there tail hosted route_is may calm is =
 along p d xs f (m ∷ ms) n k left sound there tail hosted route_is may calm is =
     let go = starts p d xs f n k left (m ∷ ms) sound there (linked-port p n (route p n f.dest) m route_is.0) (some-waits p f.dest n m ms sound route_is.0)
     (λ q low high. calm q low (omega (arith, high))) is may in
-    let active = hops p d xs f n (route p n f.dest) m (k + go.cycles) sound tail (λ q low high. calm q (omega (arith, low)) (omega (arith, go.count, high))) go.active route_is.0 go.owned in
+    let active =
+    hops p d xs f n (route p n f.dest) m (k + go.cycles) sound tail (λ q low high. calm q (omega (arith, low)) (omega (arith, go.count, high))) go.active route_is.0 go.owned in
     let rest = along p d xs f ms m (k + go.cycles + hop p) go.next sound there tail hosted route_is.1
     (next-wait p d f.dest n m (k + go.cycles) go.next ms sound route_is.0 go.owned go.few)
     (λ q low high. calm q (omega (arith, low)) (omega (arith, go.count, high))) active in

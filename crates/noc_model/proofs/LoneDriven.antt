@@ -26,7 +26,8 @@ pub lone_word-driven : (p : Plan) (d n dest t k : ℕ) (v : Driver) (states : �
 lone_word-driven p d n dest t k v states word way sound there way_is lone =
     let xs : List Input = driven_inputs p d v k 0 (start p) states in
     let u : ℕ = t + most_latency p dest n way in
-    let events : driven_events p d v k 0 (start p) states ≡ events_from p d 0 (start p) xs = driven-events_from p d v k 0 (start p) states in
+    let events : driven_events p d v k 0 (start p) states ≡ events_from p d 0 (start p) xs =
+    driven-events_from p d v k 0 (start p) states in
     let count = inputs-length p d v k 0 (start p) states in
     let state : driven_state p d v t 0 (start p) states ≡ run p d (take t xs) =
     driven-state_from p d v t 0 (start p) states ∙ ap (run p d) (sym (take-driven p d v k t 0 (start p) states (let long = lone.long in omega (arith, count, long)))) in

@@ -56,7 +56,8 @@ flat-member {X} {Y} f (a ∷ xs) x y inside there =
 tabulate-member : {X : Type 0} (n : ℕ) (f : ℕ → X) (k : ℕ) → k < n → Contains (tabulate n f) (f k)
 tabulate-member zero f k less = absurd (omega arith)
 tabulate-member (suc n) f zero less = first (f 0) (tabulate n (λ j. f (suc j)))
-tabulate-member (suc n) f (suc k) less = later (f 0) (tabulate n (λ j. f (suc j))) (f (suc k)) (tabulate-member n (λ j. f (suc j)) k (omega arith))
+tabulate-member (suc n) f (suc k) less =
+    later (f 0) (tabulate n (λ j. f (suc j))) (f (suc k)) (tabulate-member n (λ j. f (suc j)) k (omega arith))
 
 -- ---- events
 
@@ -142,7 +143,8 @@ take-event p d xs k x n word at inside e =
     there : is_open p (state_after p d (input_of xs) k n) ≡ true → hosts p n d ≡ true → x.offer n ≡ Some word
         → Contains (events_from p d 0 (start p) xs) (record { cycle = k; tile = n; domain = d; kind = Take word.payload })
     there ready hosted offer =
-        let made : record { cycle = k; tile = n; domain = d; kind = Take word.payload } ∷ [] ≡ offer_events k n d (is_open p (state_after p d (input_of xs) k n)) (x.offer n) = sym (rw (ready, offer) refl) in
+        let made : record { cycle = k; tile = n; domain = d; kind = Take word.payload } ∷ [] ≡ offer_events k n d (is_open p (state_after p d (input_of xs) k n)) (x.offer n) =
+        sym (rw (ready, offer) refl) in
         run-member p d xs k x n (record { cycle = k; tile = n; domain = d; kind = Take word.payload }) at inside hosted
         (in-first (offer_events k n d (is_open p (state_after p d (input_of xs) k n)) (x.offer n)) _ _ _
         (subst (λ es. Contains es (record { cycle = k; tile = n; domain = d; kind = Take word.payload })) made (first _ [])))
@@ -160,8 +162,10 @@ pub got-event : (p : Plan) (d : ℕ) (xs : List Input) (k : ℕ) (x : Input) (n 
     → (state_after p d (input_of xs) k n).ejected ≡ Some f
     → Contains (events_from p d 0 (start p) xs) (record { cycle = k; tile = n; domain = d; kind = Got (record { head = f.head; tail = f.tail; payload = f.payload }) })
 got-event p d xs k x n f at inside hosted hears e =
-    let event : Event = record { cycle = k; tile = n; domain = d; kind = Got (record { head = f.head; tail = f.tail; payload = f.payload }) } in
-    let made : event ∷ [] ≡ got_events k n d (x.hears n) (ejected_of (state_after p d (input_of xs) k n).ejected) = sym (rw (hears, e) refl) in
+    let event : Event =
+    record { cycle = k; tile = n; domain = d; kind = Got (record { head = f.head; tail = f.tail; payload = f.payload }) } in
+    let made : event ∷ [] ≡ got_events k n d (x.hears n) (ejected_of (state_after p d (input_of xs) k n).ejected) =
+    sym (rw (hears, e) refl) in
     run-member p d xs k x n event at inside hosted
     (Contains-append_right (offer_events k n d (is_open p (state_after p d (input_of xs) k n)) (x.offer n) ++ drop_events k n d (state_after p d (input_of xs) k n).dropped) _ event
     (subst (λ es. Contains es event) made (first event [])))

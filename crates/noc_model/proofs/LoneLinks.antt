@@ -43,7 +43,8 @@ active-sent p d t s x f n port c o w m calm is tail e owned =
   where
     rows-after : AreRowsEmpty p (step p d (pos t) s x) (Is n o 0)
     rows-after n' o' m' zero inside there below differ =
-        row-step p d (pos t) s x n' o' zero ∙ sent-elsewhere p d t s x f n port c o w n' o' is inside (λ a b. differ (a, b, refl))
+        row-step p d (pos t) s x n' o' zero
+        ∙ sent-elsewhere p d t s x f n port c o w n' o' is inside (λ a b. differ (a, b, refl))
     rows-after n' o' m' (suc i) inside there below differ =
         row-step p d (pos t) s x n' o' (suc i) ∙ is.rows n' o' m' i inside there (omega arith) (λ h. h)
 
@@ -53,7 +54,8 @@ pub active-ejected : (p : Plan) (d t : ℕ) (s : State) (x : Input) (f : Flit) (
     → (step p d (pos t) s x n).ejected ≡ Some f
 unfolding takes
 active-ejected p d t s x f n port c w calm is hosted =
-    let empty : takes p d n (pos t) (s n) (fed p d s x n) 0 w ≡ true = ap (λ y. is_none y || (fed p d s x n).hears) (is.outs n is.inside hosted) in
+    let empty : takes p d n (pos t) (s n) (fed p d s x n) 0 w ≡ true =
+    ap (λ y. is_none y || (fed p d s x n).hears) (is.outs n is.inside hosted) in
     ejected-step p d (pos t) s x n
     ∙ ap (λ y. next_ejected y (fed p d s x n).hears (s n).ejected) (sent-only p d n (pos t) (s n) (fed p d s x n) port c 0 w f (only-of p d s f n port c 0 w is) empty)
 
@@ -61,11 +63,13 @@ active-ejected p d t s x f n port c w calm is hosted =
 
 linked-still : (p : Plan) (d t : ℕ) (s : State) (x : Input) (n : ℕ) → AreListsEmpty p d s Never → n < tiles p
     → IsStill p d n (pos t) (s n) (fed p d s x n)
-linked-still p d t s x n lists inside = empty-still p d n (pos t) (s n) (fed p d s x n) (λ port c below. lists.queue n port c inside below (λ h. h))
+linked-still p d t s x n lists inside =
+    empty-still p d n (pos t) (s n) (fed p d s x n) (λ port c below. lists.queue n port c inside below (λ h. h))
 
 nothing-sent : (p : Plan) (d t : ℕ) (s : State) (x : Input) (n o : ℕ) → AreListsEmpty p d s Never → n < tiles p
     → sent p d n (pos t) (s n) (fed p d s x n) o ≡ None
-nothing-sent p d t s x n o lists inside = still-sent p d n (pos t) (s n) (fed p d s x n) o (linked-still p d t s x n lists inside)
+nothing-sent p d t s x n o lists inside =
+    still-sent p d n (pos t) (s n) (fed p d s x n) o (linked-still p d t s x n lists inside)
 
 last-other : (a k : ℕ) → suc k < a → a - 1 ≡ k → ⊥
 last-other a k less e = omega arith
@@ -145,7 +149,8 @@ linked-arrived p d t s x f n o m w i calm is last = record {
         at_link : (k : ℕ) → neighbour p n' port ≡ Some k → k ≡ n → opposite port ≡ o → ⊥
         at_link k e same out =
             let back = link-from p n' port k (positive-sound p calm.sound) there e in
-            let one : Some n' ≡ Some m = sym back.back ∙ ap (λ a. neighbour p a (opposite port)) same ∙ ap (neighbour p n) out ∙ is.link in
+            let one : Some n' ≡ Some m =
+            sym back.back ∙ ap (λ a. neighbour p a (opposite port)) same ∙ ap (neighbour p n) out ∙ is.link in
             differ (cc one) (sym back.is_opposite ∙ ap opposite out)
 
     quiet : (n' port c : ℕ) → n' < tiles p → c < in_channels p d port → (Is m (opposite o) w n' port c → ⊥)
@@ -159,7 +164,8 @@ linked-arrived p d t s x f n o m w i calm is last = record {
 
         comes : Is m (opposite o) c n' port c ⊎ (Is m (opposite o) c n' port c → ⊥)
             → comes_in p d (s n') (fed p d s x n') port c ≡ []
-        comes (inr away) = nothing-comes p d s x n' port c (calm.no_word n' there) (λ local. elsewhere n' port there (λ a b. away (a, b, refl)))
+        comes (inr away) =
+            nothing-comes p d s x n' port c (calm.no_word n' there) (λ local. elsewhere n' port there (λ a b. away (a, b, refl)))
         comes (inl at) =
             ap (λ a. comes_in p d (s a) (fed p d s x a) port c) at.0
             ∙ ap (λ b. comes_in p d (s m) (fed p d s x m) b c) at.1
@@ -228,6 +234,9 @@ word-listed p d t s x n dest word sound reached void inside between taken only h
             absurd (away (at, refl, sym same ∙ ap (λ k. (s k).current) at))
 
         comes : (q : ℕ) → (Is n 0 here n' q c → ⊥) → (n' ≡ n) ⊎ (n' ≢ n) → comes_in p d (s n') (fed p d s x n') q c ≡ []
-        comes q away (inr far) = nothing-comes p d s x n' q c (others n' there far) (λ local. nothing-arrives p s Never n' q sound void.rows there (λ k e h. h))
-        comes zero away (inl at) = other ((s n').current == c) (option_to_list (entry p d (s n').packet (word_in p (s n') (fed p d s x n')))) refl at away
-        comes (suc q) away (inl at) = ap (λ y. flit_on y c) (nothing-arrives p s Never n' (suc q) sound void.rows there (λ k e h. h))
+        comes q away (inr far) =
+            nothing-comes p d s x n' q c (others n' there far) (λ local. nothing-arrives p s Never n' q sound void.rows there (λ k e h. h))
+        comes zero away (inl at) =
+            other ((s n').current == c) (option_to_list (entry p d (s n').packet (word_in p (s n') (fed p d s x n')))) refl at away
+        comes (suc q) away (inl at) =
+            ap (λ y. flit_on y c) (nothing-arrives p s Never n' (suc q) sound void.rows there (λ k e h. h))

@@ -34,7 +34,10 @@ only-at p d s f n port c st is port' c' g below e = go (is-or-not n port c n por
   where
     go : Is n port c n port' c' ⊎ (Is n port c n port' c' → ⊥) → (port' ≡ port) × (c' ≡ c)
     go (inl h) = (h.1, h.2)
-    go (inr differ) = let none = is.lists.queue n port' c' is.inside below differ in let h = ap front none in absurd (cc)
+    go (inr differ) =
+        let none = is.lists.queue n port' c' is.inside below differ in
+        let h = ap front none in
+        absurd (cc)
 
 -- a channel that holds no output sends nothing
 waiting-still : (p : Plan) (d : ℕ) (t : ℤ) (s : State) (x : Input) (f : Flit) (n port c : ℕ) (st : Stage)
@@ -89,7 +92,9 @@ routed-active p d t s x f n port c o calm is =
             let has = (calm.reached.held n).holder o w e in
             let holder = has.is_holder in
             let same = at has.port has.channel (Active o w) holder.below holder.active (λ h. cc h) in
-            let bad : Routed o ≡ Active o w = sym is.stage ∙ sym (ap (λ k. (s n).stage k has.channel) same.0 ∙ ap ((s n).stage port) same.1) ∙ holder.active in
+            let bad : Routed o ≡ Active o w =
+            sym is.stage ∙ sym (ap (λ k. (s n).stage k has.channel) same.0 ∙ ap ((s n).stage port) same.1)
+            ∙ holder.active in
             absurd (cc bad)
 
 pub only-of : (p : Plan) (d : ℕ) (s : State) (f : Flit) (n port c o w : ℕ) → IsListed p d s f n port c (Active o w)
@@ -108,7 +113,8 @@ pub active-waits : (p : Plan) (d t : ℕ) (s : State) (x : Input) (f : Flit) (n 
     → o ≢ 0 → owner p n o (pos t) ≢ d → IsListed p d (step p d (pos t) s x) f n port c (Active o w)
 unfolding takes
 active-waits p d t s x f n port c o w calm is link other =
-    let still = still-only p d n (pos t) (s n) (fed p d s x n) port c o w f (only-of p d s f n port c o w is) (refuses o link other) in
+    let still =
+    still-only p d n (pos t) (s n) (fed p d s x n) port c o w f (only-of p d s f n port c o w is) (refuses o link other) in
     listed-stays p d t s x f n port c (Active o w) (Active o w) calm is still
     (ap (next_stage p d n (pos t) (s n) (fed p d s x n) port c) is.stage
     ∙ ap (λ b. if b && is_tail (front ((s n).queue port c)) then Idle else Active o w) (still-leaves p d n (pos t) (s n) (fed p d s x n) port c still))
@@ -128,7 +134,8 @@ sent-elsewhere p d t s x f n port c o w n' o' is inside differ = go (same-or-not
     go (inl e) =
         subst (λ k. sent p d k (pos t) (s k) (fed p d s x k) o' ≡ None) (sym e)
         (sent-other p d n (pos t) (s n) (fed p d s x n) port c o w o' f (only-of p d s f n port c o w is) (differ e))
-    go (inr other) = still-sent p d n' (pos t) (s n') (fed p d s x n') o' (other-still p d (pos t) s x f n port c n' (Active o w) is inside other)
+    go (inr other) =
+        still-sent p d n' (pos t) (s n') (fed p d s x n') o' (other-still p d (pos t) s x f n port c n' (Active o w) is inside other)
 
 -- its list is empty then, and its channel idle
 pub sent-lists : (p : Plan) (d t : ℕ) (s : State) (x : Input) (f : Flit) (n port c o w : ℕ) → IsCalm p d t s x
@@ -165,7 +172,8 @@ sent-lists p d t s x f n port c o w calm is tail taken = record {
         go : Is n port c n' port' c' ⊎ (Is n port c n' port' c' → ⊥)
             → ((step p d (pos t) s x n').queue port' c' ≡ []) × ((step p d (pos t) s x n').stage port' c' ≡ Idle)
         go (inl h) = rw (h.0, h.1, h.2) here
-        go (inr differ) = quiet-step p d (pos t) s x n' port' c' (is.lists.queue n' port' c' inside below differ) (is.lists.stage n' port' c' inside below differ) (nothing-in p d t s x n' port' c' calm is.rows inside)
+        go (inr differ) =
+            quiet-step p d (pos t) s x n' port' c' (is.lists.queue n' port' c' inside below differ) (is.lists.stage n' port' c' inside below differ) (nothing-in p d t s x n' port' c' calm is.rows inside)
 
 on_row-none : (k : ℕ) (row : ℕ → Option LinkFlit) (w : ℕ) → ((i : ℕ) → i < k → row i ≡ None) → on_row k row w ≡ 0
 on_row-none zero row w none = refl
@@ -185,8 +193,12 @@ link-differs p n o m positive e same = let is = neighbour-is p n o m e in go (wa
   where
     go : (v : Way) → has_link p n v ≡ true → tile_that_way p n v ≡ n → ⊥
     go Local h back = cc h
-    go (Plus i) h back = let m = move p n i true positive h in next-differs (side p i) (coord p n i) m.some m.from (sym m.at ∙ ap (λ k. coord p k i) back)
-    go (Minus i) h back = let m = move p n i false positive h in last-differs (side p i) (coord p n i) m.some m.from (sym m.at ∙ ap (λ k. coord p k i) back)
+    go (Plus i) h back =
+        let m = move p n i true positive h in
+        next-differs (side p i) (coord p n i) m.some m.from (sym m.at ∙ ap (λ k. coord p k i) back)
+    go (Minus i) h back =
+        let m = move p n i false positive h in
+        last-differs (side p i) (coord p n i) m.some m.from (sym m.at ∙ ap (λ k. coord p k i) back)
 
 pub in-link : (p : Plan) (d k : ℕ) → k ≢ 0 → in_channels p d k ≡ link_channels p d
 in-link p d zero link = absurd (link refl)
@@ -219,7 +231,8 @@ link-takes p d t s x f n port c o w m calm is e owned = may o link.leaves_port o
     low = rw (in-link p d (opposite o) link.arrives_port) (out-lane p d t s x f n port c o w calm is link.leaves_port)
 
     list : length ((s m).queue (opposite o) w) ≡ 0
-    list = ap length (is.lists.queue m (opposite o) w (neighbour-inside p n o m (positive-sound p calm.sound) e) low (λ h. link-differs p n o m (positive-sound p calm.sound) e h.0))
+    list =
+        ap length (is.lists.queue m (opposite o) w (neighbour-inside p n o m (positive-sound p calm.sound) e) low (λ h. link-differs p n o m (positive-sound p calm.sound) e h.0))
 
     pulse : one_if ((s m).pulse (opposite o) w) ≡ 0
     pulse = ap one_if (is.pulses m (opposite o) w (neighbour-inside p n o m (positive-sound p calm.sound) e))

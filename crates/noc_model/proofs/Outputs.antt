@@ -29,7 +29,8 @@ on_side p n dest i positive differ = go order
     order = grind arith
 
     none : (m : ℕ) → length p.dims ≤ i → slice_index (coords_in p.dims m) i ≡ 0
-    none m past = get_or_past (coords_in p.dims m) i 0 (rw (length-within p.dims (coords_in p.dims m) (within-coords_in p.dims m positive)) past)
+    none m past =
+        get_or_past (coords_in p.dims m) i 0 (rw (length-within p.dims (coords_in p.dims m) (within-coords_in p.dims m positive)) past)
 
     go : (i < length p.dims) ⊎ (length p.dims ≤ i)
         → (slice_index (coords_in p.dims n) i < slice_index_or p.dims i 1) × (slice_index (coords_in p.dims dest) i < slice_index_or p.dims i 1)
@@ -66,7 +67,8 @@ route-output p n dest positive = go (way_of (route p n dest)) refl (leads-to p n
   where
     go : (w : Way) → way_of (route p n dest) ≡ w → Leads p n dest w → IsOutput p n (route p n dest)
     go Local e home = inl (sym (port_of-way_of (route p n dest)) ∙ ap port_of e)
-    go w e (leads b i first) = inr (linked-some p n (route p n dest) (by b i) e (first-link p n dest i b positive first))
+    go w e (leads b i first) =
+        inr (linked-some p n (route p n dest) (by b i) e (first-link p n dest i b positive first))
 
 -- ---- classes and channels
 
@@ -83,8 +85,10 @@ and-first false b e = absurd (cc e)
 
 wrap-torus : (p : Plan) (n : ℕ) (w : Way) → is_wrap_way p n w ≡ true → p.torus ≡ true
 wrap-torus p n Local e = absurd (cc e)
-wrap-torus p n (Plus i) e = and-first p.torus (nat_lt 1 (side p i) && are_edges (side p i) (coord p n i) (next_in (side p i) (coord p n i))) e
-wrap-torus p n (Minus i) e = and-first p.torus (nat_lt 1 (side p i) && are_edges (side p i) (coord p n i) (last_in (side p i) (coord p n i))) e
+wrap-torus p n (Plus i) e =
+    and-first p.torus (nat_lt 1 (side p i) && are_edges (side p i) (coord p n i) (next_in (side p i) (coord p n i))) e
+wrap-torus p n (Minus i) e =
+    and-first p.torus (nat_lt 1 (side p i) && are_edges (side p i) (coord p n i) (last_in (side p i) (coord p n i))) e
 
 pub class-few : (p : Plan) (n in_port in_class out_port : ℕ) → in_class < classes p
     → class_after p n in_port in_class out_port < classes p
@@ -119,7 +123,8 @@ free-few p d s zero class w low local e =
     let none : class * channels p d ≡ 0 = rw at (omega arith) in
     omega (arith, found.2, member.0)
 free-few p d s (suc o) class w low local e =
-    let found = option-map-is (pack p d class) (least (channels p d) (λ j. not (s.held (suc o) (pack p d class j)))) w e in
+    let found =
+    option-map-is (pack p d class) (least (channels p d) (λ j. not (s.held (suc o) (pack p d class j)))) w e in
     let member = least-member (channels p d) (λ j. not (s.held (suc o) (pack p d class j))) found.0 found.1 in
     rw (← found.2) (pack-below p d class found.0 low member.0)
 
@@ -140,9 +145,11 @@ pub taken-channel_few : (p : Plan) (d n : ℕ) (s : Tile) (o w : ℕ) → taken_
     → w < out_channels p d o
 unfolding taken_channel winner
 taken-channel_few p d n s o w e =
-    let got = then-is (λ k. free_for p d n s o (k / link_channels p d) (k % link_channels p d)) (pick (ports p * link_channels p d) (is_candidate p d n s o) (s.allocation o)) w e in
+    let got =
+    then-is (λ k. free_for p d n s o (k / link_channels p d) (k % link_channels p d)) (pick (ports p * link_channels p d) (is_candidate p d n s o) (s.allocation o)) w e in
     let member = pick-member (ports p * link_channels p d) (is_candidate p d n s o) (s.allocation o) got.0 got.1 in
-    let inside : got.0 % link_channels p d < in_channels p d (got.0 / link_channels p d) = below-true (got.0 % link_channels p d) (in_channels p d (got.0 / link_channels p d)) (and-first (nat_lt (got.0 % link_channels p d) (in_channels p d (got.0 / link_channels p d))) (waits_for (s.stage (got.0 / link_channels p d) (got.0 % link_channels p d)) o && is_some (free_for p d n s o (got.0 / link_channels p d) (got.0 % link_channels p d))) member.1) in
+    let inside : got.0 % link_channels p d < in_channels p d (got.0 / link_channels p d) =
+    below-true (got.0 % link_channels p d) (in_channels p d (got.0 / link_channels p d)) (and-first (nat_lt (got.0 % link_channels p d) (in_channels p d (got.0 / link_channels p d))) (waits_for (s.stage (got.0 / link_channels p d) (got.0 % link_channels p d)) o && is_some (free_for p d n s o (got.0 / link_channels p d) (got.0 % link_channels p d))) member.1) in
     free-few p d s o (class_of p d n (got.0 / link_channels p d) (got.0 % link_channels p d) o) w
     (class-few p n (got.0 / link_channels p d) (got.0 % link_channels p d / channels p d) o (channel-class p d (got.0 / link_channels p d) (got.0 % link_channels p d) inside))
     (class-zero p d n (got.0 / link_channels p d) (got.0 % link_channels p d) o)

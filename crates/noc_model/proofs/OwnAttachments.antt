@@ -67,10 +67,12 @@ pub driven-same : (p : Plan) (d : ℕ) (v w : Driver) (states others : ℕ → L
     → AreSame p d (driven p d v states t) (driven p d w others t)
 driven-same p d v w states others t alike same = record {
   offer = λ n here. (let has = attached p n d here in let own = own-of n has in
-      ap (offer_at v states t) has.is ∙ ap (λ state. v.offer has.number state t) (same has.number own) ∙ (alike has.number own).offer (others has.number) t
+      ap (offer_at v states t) has.is ∙ ap (λ state. v.offer has.number state t) (same has.number own)
+      ∙ (alike has.number own).offer (others has.number) t
       ∙ sym (ap (offer_at w others t) has.is));
   hears = λ n here. (let has = attached p n d here in let own = own-of n has in
-      ap (hears_at v states t) has.is ∙ ap (λ state. v.hears has.number state t) (same has.number own) ∙ (alike has.number own).hears (others has.number) t
+      ap (hears_at v states t) has.is ∙ ap (λ state. v.hears has.number state t) (same has.number own)
+      ∙ (alike has.number own).hears (others has.number) t
       ∙ sym (ap (hears_at w others t) has.is));
 }
   where
@@ -126,7 +128,8 @@ pub states-same : (p : Plan) (d : ℕ) (v w : Driver) (states others : ℕ → L
     → ((j : ℕ) → IsOwn p d j → DoAlike v w j) → ((j : ℕ) → IsOwn p d j → states j ≡ others j)
     → (j : ℕ) → IsOwn p d j → next_states p d v states t s j ≡ next_states p d w others t s j
 states-same p d v w states others t s alike same j own =
-    ap (λ state. next_state p d v t s j state (slice_get p.hosts j)) (same j own) ∙ after-same p d v w t s j (others j) (slice_get p.hosts j) (alike j own)
+    ap (λ state. next_state p d v t s j state (slice_get p.hosts j)) (same j own)
+    ∙ after-same p d v w t s j (others j) (slice_get p.hosts j) (alike j own)
 
 -- drivers that do the same at the domain's own attachments, in the same states there, give the same events
 pub driven_events-same : (p : Plan) (d : ℕ) (v w : Driver) (k t : ℕ) (s : State) (states others : ℕ → List ℕ)

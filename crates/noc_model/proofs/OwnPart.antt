@@ -78,14 +78,19 @@ owner-own q d xs hs ss n o t e = go (way_of o)
     go : (w : Way)
         → (slice_index ss (slot_of (with_lists q xs hs ss) n t w) == d) ≡ (slice_index q.slots (slot_of q n t w) == d)
     go Local = e.own_slots 0
-    go (Plus i) = e.own_slots (slot_of (with_lists q xs hs ss) n t (Plus i)) ∙ ap (λ k. slice_index q.slots (modulo (t -ℤ pos (hop q * wave q n)) k) == d) e.slot_count
-    go (Minus i) = e.own_slots (slot_of (with_lists q xs hs ss) n t (Minus i)) ∙ ap (λ k. slice_index q.slots (modulo (t +ℤ pos (hop q * wave q n)) k) == d) e.slot_count
+    go (Plus i) =
+        e.own_slots (slot_of (with_lists q xs hs ss) n t (Plus i))
+        ∙ ap (λ k. slice_index q.slots (modulo (t -ℤ pos (hop q * wave q n)) k) == d) e.slot_count
+    go (Minus i) =
+        e.own_slots (slot_of (with_lists q xs hs ss) n t (Minus i))
+        ∙ ap (λ k. slice_index q.slots (modulo (t +ℤ pos (hop q * wave q n)) k) == d) e.slot_count
 
 takes-own : (q : Plan) (d : ℕ) (xs : List DomainPart) (hs : List Host) (ss : List ℕ) (n : ℕ) (t : ℤ) (s : Tile)
     (i : TileIn) (o w : ℕ) → HaveOwnLists q d xs hs ss
     → takes (with_lists q xs hs ss) d n t s i o w ≡ takes q d n t s i o w
 unfolding takes
-takes-own q d xs hs ss n t s i o w e = ap (λ b. at_local o (is_none s.ejected || i.hears) (b && nat_lt 0 (s.credits o w))) (owner-own q d xs hs ss n o t e)
+takes-own q d xs hs ss n t s i o w e =
+    ap (λ b. at_local o (is_none s.ejected || i.hears) (b && nat_lt 0 (s.credits o w))) (owner-own q d xs hs ss n o t e)
 
 class-own : (q : Plan) (d : ℕ) (xs : List DomainPart) (hs : List Host) (ss : List ℕ) (n a b c : ℕ)
     → class_after (with_lists q xs hs ss) n a b c ≡ class_after q n a b c
@@ -109,7 +114,8 @@ winner-own q d xs hs ss n s o e = λ i. pick (ports q * (classes q * e.channel_c
 taken-own : (q : Plan) (d : ℕ) (xs : List DomainPart) (hs : List Host) (ss : List ℕ) (n : ℕ) (s : Tile) (o : ℕ)
     → HaveOwnLists q d xs hs ss → taken_channel (with_lists q xs hs ss) d n s o ≡ taken_channel q d n s o
 unfolding taken_channel
-taken-own q d xs hs ss n s o e = λ i. option_and_then (λ k. free-own q d xs hs ss n s o (k / (classes q * e.channel_count i)) (k % (classes q * e.channel_count i)) e i) (winner-own q d xs hs ss n s o e i)
+taken-own q d xs hs ss n s o e =
+    λ i. option_and_then (λ k. free-own q d xs hs ss n s o (k / (classes q * e.channel_count i)) (k % (classes q * e.channel_count i)) e i) (winner-own q d xs hs ss n s o e i)
 
 ready-own : (q : Plan) (d : ℕ) (xs : List DomainPart) (hs : List Host) (ss : List ℕ) (n : ℕ) (t : ℤ) (s : Tile)
     (i : TileIn) (fs : List Flit) (st : Stage) → HaveOwnLists q d xs hs ss
@@ -129,13 +135,15 @@ asked-own q d xs hs ss n t s i port e = λ j. option_and_then (λ c. grant_at c 
 chosen-own : (q : Plan) (d : ℕ) (xs : List DomainPart) (hs : List Host) (ss : List ℕ) (n : ℕ) (t : ℤ) (s : Tile)
     (i : TileIn) (o : ℕ) → HaveOwnLists q d xs hs ss → chosen (with_lists q xs hs ss) d n t s i o ≡ chosen q d n t s i o
 unfolding chosen
-chosen-own q d xs hs ss n t s i o e = λ j. pick (ports q) (λ port. asks_for (asked-own q d xs hs ss n t s i port e j) o) (s.switch o)
+chosen-own q d xs hs ss n t s i o e =
+    λ j. pick (ports q) (λ port. asks_for (asked-own q d xs hs ss n t s i port e j) o) (s.switch o)
 
 grant-own : (q : Plan) (d : ℕ) (xs : List DomainPart) (hs : List Host) (ss : List ℕ) (n : ℕ) (t : ℤ) (s : Tile)
     (i : TileIn) (port : ℕ) → HaveOwnLists q d xs hs ss
     → grant (with_lists q xs hs ss) d n t s i port ≡ grant q d n t s i port
 unfolding grant
-grant-own q d xs hs ss n t s i port e = λ j. option_and_then (λ g. granted_to (chosen-own q d xs hs ss n t s i g.out e j) port g) (asked-own q d xs hs ss n t s i port e j)
+grant-own q d xs hs ss n t s i port e =
+    λ j. option_and_then (λ g. granted_to (chosen-own q d xs hs ss n t s i g.out e j) port g) (asked-own q d xs hs ss n t s i port e j)
 
 leaves-own : (q : Plan) (d : ℕ) (xs : List DomainPart) (hs : List Host) (ss : List ℕ) (n : ℕ) (t : ℤ) (s : Tile)
     (i : TileIn) (port c : ℕ) → HaveOwnLists q d xs hs ss
@@ -146,15 +154,18 @@ leaves-own q d xs hs ss n t s i port c e = λ j. is_channel (grant-own q d xs hs
 sent-own : (q : Plan) (d : ℕ) (xs : List DomainPart) (hs : List Host) (ss : List ℕ) (n : ℕ) (t : ℤ) (s : Tile)
     (i : TileIn) (o : ℕ) → HaveOwnLists q d xs hs ss → sent (with_lists q xs hs ss) d n t s i o ≡ sent q d n t s i o
 unfolding sent
-sent-own q d xs hs ss n t s i o e = λ j. option_and_then (λ port. option_and_then (λ g. with_channel g.to (front (s.queue port g.channel))) (grant-own q d xs hs ss n t s i port e j)) (chosen-own q d xs hs ss n t s i o e j)
+sent-own q d xs hs ss n t s i o e =
+    λ j. option_and_then (λ port. option_and_then (λ g. with_channel g.to (front (s.queue port g.channel))) (grant-own q d xs hs ss n t s i port e j)) (chosen-own q d xs hs ss n t s i o e j)
 
 stage-own : (q : Plan) (d : ℕ) (xs : List DomainPart) (hs : List Host) (ss : List ℕ) (n : ℕ) (t : ℤ) (s : Tile)
     (i : TileIn) (port c : ℕ) (st : Stage) → HaveOwnLists q d xs hs ss
     → next_stage (with_lists q xs hs ss) d n t s i port c st ≡ next_stage q d n t s i port c st
 unfolding route
 stage-own q d xs hs ss n t s i port c Idle e = refl
-stage-own q d xs hs ss n t s i port c (Routed o) e = λ j. activated (is_place (winner-own q d xs hs ss n s o e j) (port * (classes q * e.channel_count j) + c)) o (taken-own q d xs hs ss n s o e j)
-stage-own q d xs hs ss n t s i port c (Active o w) e = λ j. if leaves-own q d xs hs ss n t s i port c e j && is_tail (front (s.queue port c)) then Idle else Active o w
+stage-own q d xs hs ss n t s i port c (Routed o) e =
+    λ j. activated (is_place (winner-own q d xs hs ss n s o e j) (port * (classes q * e.channel_count j) + c)) o (taken-own q d xs hs ss n s o e j)
+stage-own q d xs hs ss n t s i port c (Active o w) e =
+    λ j. if leaves-own q d xs hs ss n t s i port c e j && is_tail (front (s.queue port c)) then Idle else Active o w
 
 -- ---- the attachment
 
@@ -226,7 +237,9 @@ step-lists q d xs hs ss n t s i e = λ j. record {
 -- a tile's step reads the own part alone
 pub tile_step-own : (p q : Plan) (d n : ℕ) (t : ℤ) (s : Tile) (i : TileIn) → HaveOwnPart p q d
     → tile_step p d n t s i ≡ tile_step q d n t s i
-tile_step-own p q d n t s i e = ap (λ r. tile_step r d n t s i) (same-plan p q d e) ∙ step-lists q d p.domains p.hosts p.slots n t s i (own-lists p q d e)
+tile_step-own p q d n t s i e =
+    ap (λ r. tile_step r d n t s i) (same-plan p q d e)
+    ∙ step-lists q d p.domains p.hosts p.slots n t s i (own-lists p q d e)
 
 -- ---- runs
 
@@ -251,7 +264,8 @@ fed-own p q d s x n e = λ j. record {
 pub step-own : (p q : Plan) (d : ℕ) (t : ℤ) (s : State) (x : Input) → HaveOwnPart p q d
     → step p d t s x ≡ step q d t s x
 unfolding step
-step-own p q d t s x e = λ j n. (ap (tile_step p d n t (s n)) (fed-own p q d s x n e) ∙ tile_step-own p q d n t (s n) (fed q d s x n) e) j
+step-own p q d t s x e =
+    λ j n. (ap (tile_step p d n t (s n)) (fed-own p q d s x n e) ∙ tile_step-own p q d n t (s n) (fed q d s x n) e) j
 
 start-own : (p q : Plan) (d : ℕ) → HaveOwnPart p q d → start p ≡ start q
 start-own p q d e = λ j n. start_tile (same-plan p q d e j)
@@ -259,7 +273,9 @@ start-own p q d e = λ j n. start_tile (same-plan p q d e j)
 from-own : (p q : Plan) (d t : ℕ) (s : State) (xs : List Input) → HaveOwnPart p q d
     → state_from p d t s xs ≡ state_from q d t s xs
 from-own p q d t s [] e = refl
-from-own p q d t s (x ∷ xs) e = from-own p q d (suc t) (step p d (pos t) s x) xs e ∙ ap (λ next. state_from q d (suc t) next xs) (step-own p q d (pos t) s x e)
+from-own p q d t s (x ∷ xs) e =
+    from-own p q d (suc t) (step p d (pos t) s x) xs e
+    ∙ ap (λ next. state_from q d (suc t) next xs) (step-own p q d (pos t) s x e)
 
 pub run-own : (p q : Plan) (d : ℕ) (xs : List Input) → HaveOwnPart p q d → run p d xs ≡ run q d xs
 run-own p q d xs e = from-own p q d 0 (start p) xs e ∙ ap (λ s. state_from q d 0 s xs) (start-own p q d e)
@@ -267,7 +283,9 @@ run-own p q d xs e = from-own p q d 0 (start p) xs e ∙ ap (λ s. state_from q 
 pub after-own : (p q : Plan) (d : ℕ) (xs : ℕ → Input) (t : ℕ) → HaveOwnPart p q d
     → state_after p d xs t ≡ state_after q d xs t
 after-own p q d xs zero e = start-own p q d e
-after-own p q d xs (suc t) e = step-own p q d (pos t) (state_after p d xs t) (xs t) e ∙ ap (λ s. step q d (pos t) s (xs t)) (after-own p q d xs t e)
+after-own p q d xs (suc t) e =
+    step-own p q d (pos t) (state_after p d xs t) (xs t) e
+    ∙ ap (λ s. step q d (pos t) s (xs t)) (after-own p q d xs t e)
 
 -- ---- what is seen of them
 

@@ -24,7 +24,9 @@ packets-append a b c (f ∷ fs) ys first rest = (first.0, packets-append (after_
 -- a shift of the row, with what goes off and what comes on
 on_way-shifted : (k : ℕ) (x : Option LinkFlit) (row : ℕ → Option LinkFlit) (w : ℕ)
     → flit_on (row k) w ++ on_way (suc k) (shifted x row) w ≡ on_way (suc k) row w ++ flit_on x w
-on_way-shifted zero x row w = ap (λ fs. flit_on (row 0) w ++ fs) (append-nil (flit_on x w)) ∙ ap (λ fs. fs ++ flit_on x w) (sym (append-nil (flit_on (row 0) w)))
+on_way-shifted zero x row w =
+    ap (λ fs. flit_on (row 0) w ++ fs) (append-nil (flit_on x w))
+    ∙ ap (λ fs. fs ++ flit_on x w) (sym (append-nil (flit_on (row 0) w)))
 on_way-shifted (suc k) x row w =
     ap (λ fs. flit_on (row (suc k)) w ++ fs) (on_way-shifted k x row w)
     ∙ sym (append_assoc (flit_on (row (suc k)) w) (on_way (suc k) row w) (flit_on x w))
@@ -142,7 +144,8 @@ front-next p d n t s i port c a more fits stands = go (s.stage port c) refl stan
 
     go : (st : Stage) → s.stage port c ≡ st → FrontStands p n a (s.queue port c) st
         → FrontStands p n (moved_on (leaves p d n t s i port c) (s.queue port c) a) (drop (one_if (leaves p d n t s i port c)) (s.queue port c) ++ more) (next_stage p d n t s i port c st)
-    go Idle e h = subst (λ b. Next b (routed p n (s.queue port c) Idle)) (sym (stays-put p d n t s i port c (not_active-idle e))) (first (s.queue port c) h)
+    go Idle e h =
+        subst (λ b. Next b (routed p n (s.queue port c) Idle)) (sym (stays-put p d n t s i port c (not_active-idle e))) (first (s.queue port c) h)
     go (Routed o) e h = subst (λ b. Next b (activated (is_place (winner p d n s o) (port * link_channels p d + c)) o (taken_channel p d n s o))) (sym (stays-put p d n t s i port c (not_active-routed o e)))
         (within (is_place (winner p d n s o) (port * link_channels p d + c)) (taken_channel p d n s o) o a (s.queue port c ++ more) h.0 (head-stays p n o (s.queue port c) more h.1))
     go (Active o w) e h = on o w (leaves p d n t s i port c) a (s.queue port c) (leaves-front p d n t s i port c) fits h

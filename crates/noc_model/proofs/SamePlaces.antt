@@ -61,7 +61,8 @@ queue-all p d n a b i j port c twins below = go (by_port p n port)
   where
     go : IsOutput p n port ⊎ ((port ≢ 0) × (neighbour p n port ≡ None)) → a.queue port c ≡ b.queue port c
     go (inl there) = twins.same.queue port c there below
-    go (inr away) = twins.placed.bare.empty port c away.0 away.1 below ∙ sym (twins.bare.empty port c away.0 away.1 below)
+    go (inr away) =
+        twins.placed.bare.empty port c away.0 away.1 below ∙ sym (twins.bare.empty port c away.0 away.1 below)
 
 -- ---- the outputs' channels
 
@@ -141,7 +142,9 @@ takes-same p d n t a b i j zero w twins there below away = go (hosts p n d) refl
   where
     go : (h : Bool) → hosts p n d ≡ h → (is_none a.ejected || i.hears) ≡ (is_none b.ejected || j.hears)
     go false e = absurd (away e refl)
-    go true e = ap (λ (x : Option Flit). is_none x || i.hears) (twins.same.ejected e) ∙ ap (λ h. is_none b.ejected || h) (twins.fed.hears e)
+    go true e =
+        ap (λ (x : Option Flit). is_none x || i.hears) (twins.same.ejected e)
+        ∙ ap (λ h. is_none b.ejected || h) (twins.fed.hears e)
 takes-same p d n t a b i j (suc o) w twins (inl e) below away = absurd (omega arith)
 takes-same p d n t a b i j (suc o) w twins (inr e) below away = go (neighbour p n (suc o)) refl e
   where
@@ -193,7 +196,9 @@ asked-same p d n t a b i j port twins = go (by_port p n port)
     go : IsOutput p n port ⊎ ((port ≢ 0) × (neighbour p n port ≡ None))
         → asked p d n t a i port ≡ asked p d n t b j port
     go (inl there) = asked-there p d n t a b i j port twins there
-    go (inr away) = bare-asks p d n t a i port twins.placed.bare away.0 away.1 ∙ sym (bare-asks p d n t b j port twins.bare away.0 away.1)
+    go (inr away) =
+        bare-asks p d n t a i port twins.placed.bare away.0 away.1
+        ∙ sym (bare-asks p d n t b j port twins.bare away.0 away.1)
 
 chosen-same : (p : Plan) (d n : ℕ) (t : ℤ) (a b : Tile) (i j : TileIn) (o : ℕ) → AreTwins p d n a b i j → IsOutput p n o
     → chosen p d n t a i o ≡ chosen p d n t b j o
@@ -251,7 +256,8 @@ word-same : (p : Plan) (d n : ℕ) (a b : Tile) (i j : TileIn) → AreTwins p d 
     → word_in p a i ≡ word_in p b j
 unfolding word_in
 word-same p d n a b i j twins here =
-    ap (λ c. if c then i.offer else None) (open-same p d n a b twins.same here twins.placed.current) ∙ ap (λ (x : Option Offer). if is_open p b then x else None) (twins.fed.offer here)
+    ap (λ c. if c then i.offer else None) (open-same p d n a b twins.same here twins.placed.current)
+    ∙ ap (λ (x : Option Offer). if is_open p b then x else None) (twins.fed.offer here)
 
 -- where nothing is offered nothing comes in
 nothing-comes : (p : Plan) (d : ℕ) (s : Tile) (i : TileIn) (c : ℕ) → i.offer ≡ None → comes_in p d s i 0 c ≡ []
@@ -287,7 +293,8 @@ comes_in-same p d n a b i j (suc port) c twins (inr e) = go (neighbour p n (suc 
 stage-next-same : (p : Plan) (d n : ℕ) (t : ℤ) (a b : Tile) (i j : TileIn) (port c : ℕ) (s : Stage)
     → AreTwins p d n a b i j → c < in_channels p d port → HasOutput p d n s
     → next_stage p d n t a i port c s ≡ next_stage p d n t b j port c s
-stage-next-same p d n t a b i j port c Idle twins below h = ap (λ fs. routed p n fs Idle) (queue-all p d n a b i j port c twins below)
+stage-next-same p d n t a b i j port c Idle twins below h =
+    ap (λ fs. routed p n fs Idle) (queue-all p d n a b i j port c twins below)
 stage-next-same p d n t a b i j port c (Routed o) twins below h =
     ap (λ w. activated (is_place w (port * link_channels p d + c)) o (taken_channel p d n a o)) (winner-same p d n a b i j o twins h)
     ∙ ap (activated (is_place (winner p d n b o) (port * link_channels p d + c)) o) (taken-same p d n a b i j o twins h)

@@ -32,7 +32,8 @@ twins-next p d t a b x y sound fit twins = record {
 pub twins-events : (p : Plan) (d t : ℕ) (a b : State) (x y : Input) → IsSound p → AreSame p d x y
     → AreTwinStates p d t a b
     → cycle_events p d t a x ≡ cycle_events p d t b y
-twins-events p d t a b x y sound fit twins = events-same p d t a b x y sound twins.same fit (placed p d (pos t) a twins.reached)
+twins-events p d t a b x y sound fit twins =
+    events-same p d t a b x y sound twins.same fit (placed p d (pos t) a twins.reached)
 
 -- ---- lists of inputs
 

@@ -100,13 +100,15 @@ bare-tile p d n t s i none bare = record {
     empty : (port c : ℕ) → port ≢ 0 → neighbour p n port ≡ None → c < in_channels p d port
         → drop (one_if (leaves p d n t s i port c)) (s.queue port c) ++ comes_in p d s i port c ≡ []
     empty zero c link away below = absurd (link refl)
-    empty (suc port) c link away below = rw (bare.empty (suc port) c link away below, none (suc port) away) (drop-nothing (leaves p d n t s i (suc port) c))
+    empty (suc port) c link away below =
+        rw (bare.empty (suc port) c link away below, none (suc port) away) (drop-nothing (leaves p d n t s i (suc port) c))
 
 -- ports without a link stay empty
 pub bare-step : (p : Plan) (d : ℕ) (t : ℤ) (s : State) (x : Input) → IsBareState p d s
     → IsBareState p d (step p d t s x)
 unfolding step
-bare-step p d t s x bare n inside = bare-tile p d n t (s n) (fed p d s x n) (λ port none. arrival-none p s n port none) (bare n inside)
+bare-step p d t s x bare n inside =
+    bare-tile p d n t (s n) (fed p d s x n) (λ port none. arrival-none p s n port none) (bare n inside)
 
 -- ---- the events
 
@@ -139,7 +141,8 @@ next_state-same p d v t a b j state (Some h) sound same placed at = go (h.domain
     inside = (host-within p j h sound at).0
 
     moved : State → List ℕ
-    moved s = after_got v j (after_taken v j state t (is_open p (s h.tile) && is_some (v.offer j state t))) t (v.hears j state t) (ejected_of (s h.tile).ejected)
+    moved s =
+        after_got v j (after_taken v j state t (is_open p (s h.tile) && is_some (v.offer j state t))) t (v.hears j state t) (ejected_of (s h.tile).ejected)
 
     go : (own : Bool) → (h.domain == d) ≡ own → (if own then moved a else state) ≡ (if own then moved b else state)
     go false other = refl
@@ -155,7 +158,8 @@ pub next_states-same : (p : Plan) (d : ℕ) (v : Driver) (states others : ℕ �
     → IsSameState p d a b → IsPlacedState p d a
     → ((j : ℕ) → states j ≡ others j) → (j : ℕ) → next_states p d v states t a j ≡ next_states p d v others t b j
 next_states-same p d v states others t a b sound same placed alike j =
-    ap (λ state. next_state p d v t a j state (slice_get p.hosts j)) (alike j) ∙ next_state-same p d v t a b j (others j) (slice_get p.hosts j) sound same placed refl
+    ap (λ state. next_state p d v t a j state (slice_get p.hosts j)) (alike j)
+    ∙ next_state-same p d v t a b j (others j) (slice_get p.hosts j) sound same placed refl
 
 -- a driver does the same from the same states
 pub driven-alike : (p : Plan) (d : ℕ) (v : Driver) (states others : ℕ → List ℕ) (t : ℕ)

@@ -59,7 +59,8 @@ rows-stand p t rows s x out stand given d n o m zero real inside e below =
     rw (filled-now t) (first-place p d n o t (out n o) (sent p d n t (s d n) (fed p d (s d) (x d) n) o) (owner p n o t == d) refl
     (λ own. given d n o m real inside e (grind (arith, nat_tests, own)))
     (λ other. not-owner p d n t (s d n) (fed p d (s d) (x d) n) o link (grind (arith, nat_tests, other))))
-rows-stand p t rows s x out stand given d n o m (suc i) real inside e below = rw (filled-next t i) (stand d n o m i real inside e (omega arith))
+rows-stand p t rows s x out stand given d n o m (suc i) real inside e below =
+    rw (filled-next t i) (stand d n o m i real inside e (omega arith))
 
 -- the empty rows of the start stand
 pub rows-start : (p : Plan) (t : ℤ) → RowsStand p t (λ n o i. None) (λ d. start p)

@@ -62,7 +62,8 @@ pub asked-ready : (p : Plan) (d n : ℕ) (t : ℤ) (s : Tile) (i : TileIn) (port
     → asked p d n t s i port ≡ Some g → IsReadyFor p d n t s i port g
 unfolding asked
 asked-ready p d n t s i port g e =
-    let got = then-is (λ c. grant_at c (s.stage port c)) (pick (in_channels p d port) (is_ready p d n t s i port) (s.turn port)) g e in
+    let got =
+    then-is (λ c. grant_at c (s.stage port c)) (pick (in_channels p d port) (is_ready p d n t s i port) (s.turn port)) g e in
     let member = pick-member (in_channels p d port) (is_ready p d n t s i port) (s.turn port) got.0 got.1 in
     let at = grant_at-is got.0 (s.stage port got.0) g got.2 in
     let ready = ready_queue p d n t s i (s.queue port got.0) (s.stage port got.0) g.out g.to at.1 member.1 in
@@ -138,13 +139,15 @@ granted-out p d n t s i o port g is_chosen is_granted =
 pub chosen-inside : (p : Plan) (d n : ℕ) (t : ℤ) (s : Tile) (i : TileIn) (o port : ℕ) → chosen p d n t s i o ≡ Some port
     → port < ports p
 unfolding chosen
-chosen-inside p d n t s i o port e = (pick-member (ports p) (λ k. asks_for (asked p d n t s i k) o) (s.switch o) port e).0
+chosen-inside p d n t s i o port e =
+    (pick-member (ports p) (λ k. asks_for (asked p d n t s i k) o) (s.switch o) port e).0
 
 pub sent-by : (p : Plan) (d n : ℕ) (t : ℤ) (s : Tile) (i : TileIn) (o : ℕ) (x : LinkFlit)
     → sent p d n t s i o ≡ Some x → IsSentBy p d n t s i o x
 unfolding sent
 sent-by p d n t s i o x e =
-    let got = then-is (λ port. option_and_then (λ g. with_channel g.to (front (s.queue port g.channel))) (grant p d n t s i port)) (chosen p d n t s i o) x e in
+    let got =
+    then-is (λ port. option_and_then (λ g. with_channel g.to (front (s.queue port g.channel))) (grant p d n t s i port)) (chosen p d n t s i o) x e in
     let by = then-is (λ g. with_channel g.to (front (s.queue got.0 g.channel))) (grant p d n t s i got.0) x got.2 in
     record {
       port = got.0;

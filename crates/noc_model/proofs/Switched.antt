@@ -33,7 +33,8 @@ output-below p n o (inr e) = link-below p n o e
 granted-output : (p : Plan) (d n : ℕ) (t : ℤ) (s : Tile) (i : TileIn) (port : ℕ) (g : Grant)
     → ((port c : ℕ) → HasOutput p d n (s.stage port c)) → grant p d n t s i port ≡ Some g
     → IsOutput p n g.out
-granted-output p d n t s i port g stages e = (subst (HasOutput p d n) (grant-ready p d n t s i port g e).active (stages port g.channel)).0
+granted-output p d n t s i port g stages e =
+    (subst (HasOutput p d n) (grant-ready p d n t s i port g e).active (stages port g.channel)).0
 
 -- ---- picks are grants
 
@@ -102,8 +103,10 @@ by-output v p d n t s i o = go (chosen p d n t s i o) refl
     go None e = sym (ap (λ x. weight v (flit_of x)) (none e))
     go (Some port) e =
         let by = chosen-granted p d n t s i o port e in
-        let out : sent p d n t s i o ≡ with_channel by.0.to (front (s.queue port by.0.channel)) = ap (sent p d n t s i) (sym by.2) ∙ granted-sent p d n t s i port by.0 by.1 in
-        ap (granted_weight v s port) by.1 ∙ sym (ap (λ x. weight v (flit_of x)) out ∙ with-weight v by.0.to (front (s.queue port by.0.channel)))
+        let out : sent p d n t s i o ≡ with_channel by.0.to (front (s.queue port by.0.channel)) =
+        ap (sent p d n t s i) (sym by.2) ∙ granted-sent p d n t s i port by.0 by.1 in
+        ap (granted_weight v s port) by.1
+        ∙ sym (ap (λ x. weight v (flit_of x)) out ∙ with-weight v by.0.to (front (s.queue port by.0.channel)))
 
 out_of-is : (g : Option Grant) (o : ℕ) → out_of g ≡ Some o → (h : Grant) × (g ≡ Some h) × (h.out ≡ o)
 unfolding out_of

@@ -78,7 +78,8 @@ comes_in-home : (p : Plan) (d : ℕ) (s : Tile) (i : TileIn) (port c : ℕ) → 
 comes_in-home p d s i zero c packet arrives = go (s.current == c)
   where
     go : (b : Bool) → All (GoesHome p d) (if b then option_to_list (entry p d s.packet (word_in p s i)) else [])
-    go true = option-home p d (entry p d s.packet (word_in p s i)) (λ f e. entry-home p d s.packet (word_in p s i) f packet e)
+    go true =
+        option-home p d (entry p d s.packet (word_in p s i)) (λ f e. entry-home p d s.packet (word_in p s i) f packet e)
     go false = All-nil (GoesHome p d)
 comes_in-home p d s i (suc port) c packet arrives = flit_on-home p d c (i.arrives (suc port)) (arrives (suc port))
 
@@ -113,7 +114,8 @@ sent-channel : (p : Plan) (d n : ℕ) (t : ℤ) (s : Tile) (i : TileIn) (o : ℕ
 sent-channel p d n t s i o x stages link e =
     let by = sent-by p d n t s i o x e in
     let ready = grant-ready p d n t s i by.port by.by by.granted in
-    let few = active-few p d n (s.stage by.port by.by.channel) by.by.out by.by.to (stages by.port by.by.channel) ready.active in
+    let few =
+    active-few p d n (s.stage by.port by.by.channel) by.by.out by.by.to (stages by.port by.by.channel) ready.active in
     link-channel_few p d o x.channel link (few-there p d o by.by.out x.channel by.by.to by.out by.to few)
 
 -- ---- the parts of a step
@@ -184,8 +186,10 @@ entry-room p d s i f e = go s.packet i.offer e
     go : (k : Packet) (x : Option Offer)
         → entry p d k (if is_ready_packet k (length (s.queue 0 s.current)) p.buffer then x else None) ≡ Some f
         → length (s.queue 0 s.current) < p.buffer
-    go Between x e = below (length (s.queue 0 s.current)) p.buffer (taken (nat_lt (length (s.queue 0 s.current)) p.buffer) Between x e)
-    go (Passing dest) x e = below (length (s.queue 0 s.current)) p.buffer (taken (nat_lt (length (s.queue 0 s.current)) p.buffer) (Passing dest) x e)
+    go Between x e =
+        below (length (s.queue 0 s.current)) p.buffer (taken (nat_lt (length (s.queue 0 s.current)) p.buffer) Between x e)
+    go (Passing dest) x e =
+        below (length (s.queue 0 s.current)) p.buffer (taken (nat_lt (length (s.queue 0 s.current)) p.buffer) (Passing dest) x e)
     go Dropping x e = absurd (none true x e)
 
 local-fits : (p : Plan) (d : ℕ) (s : Tile) (i : TileIn) (k c : ℕ) → length (s.queue 0 c) ≤ p.buffer

@@ -40,7 +40,8 @@ fed-arrives p d n t s port x sound inside tile sum e =
     let link = link-from p n port m (positive p.dims sound.sides) inside come.1 in
     let some = sound.stages.0 in
     let last : p.stages - 1 + 1 ≡ p.stages = omega (arith, some) in
-    let room = arrival-room p s m (opposite port) n (p.stages - 1) x (sum m (opposite port) n x.channel (neighbour-inside p n port m (positive p.dims sound.sides) come.1) link.back) (omega (arith, some)) come.2 in
+    let room =
+    arrival-room p s m (opposite port) n (p.stages - 1) x (sum m (opposite port) n x.channel (neighbour-inside p n port m (positive p.dims sound.sides) come.1) link.back) (omega (arith, some)) come.2 in
     record {
       from = m;
       linked = come.1;
@@ -90,11 +91,13 @@ after-run p d xs t =
 pub after-reached : (p : Plan) (d : ℕ) (xs : ℕ → Input) (t : ℕ) → IsSound p → d < length p.domains
     → IsReached p d (pos t) (state_after p d xs t)
 after-reached p d xs zero sound there = reached-start p d (pos 0) (some-channels p d sound there)
-after-reached p d xs (suc t) sound there = reached-next p d t (state_after p d xs t) (xs t) sound (after-reached p d xs t sound there)
+after-reached p d xs (suc t) sound there =
+    reached-next p d t (state_after p d xs t) (xs t) sound (after-reached p d xs t sound there)
 
 pub after-sum : (p : Plan) (d : ℕ) (xs : ℕ → Input) (t n o m w : ℕ) → IsSound p → n < tiles p → neighbour p n o ≡ Some m
     → channel_sum p (state_after p d xs t) n o m w ≡ p.buffer
-after-sum p d xs t n o m w sound inside e = ap (λ s. channel_sum p s n o m w) (after-run p d xs t) ∙ channel_sum-law p d n o m w (tabulate t xs) sound inside e
+after-sum p d xs t n o m w sound inside e =
+    ap (λ s. channel_sum p s n o m w) (after-run p d xs t) ∙ channel_sum-law p d n o m w (tabulate t xs) sound inside e
 
 -- ---- each tile of a network is such a run
 

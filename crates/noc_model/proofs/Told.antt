@@ -15,7 +15,8 @@ use Rattle.noc_model.specs.Flits.{where_there, enters_at, delivered_at}
 
 -- the got event of a flit
 abbrev pub got_of : ℕ → ℕ → ℕ → Flit → Event
-got_of t n d f = record { cycle = t; tile = n; domain = d; kind = Got (record { head = f.head; tail = f.tail; payload = f.payload }) }
+got_of t n d f =
+    record { cycle = t; tile = n; domain = d; kind = Got (record { head = f.head; tail = f.tail; payload = f.payload }) }
 
 -- the flits that are delivered at a tile are those of its got events
 pub got-delivered : (p : Plan) (d t n : ℕ) (s : State) (x : Input) → hosts p n d ≡ true
