@@ -23,7 +23,8 @@ read-is xs i x d there e = let at = slice_get-get_or xs i d there in let both = 
 routed-is : (p : Plan) (n : ℕ) (front : Option Flit) (s next : Stage) → GoesToTile p front
     → routed_by (routes_of p n) front s next ≡ routed_next p n front s next
 routed-is p n None s next goes = refl
-routed-is p n (Some f) Idle next goes = ap Routed (get_or-map-range_with_len (route p n) 0 (tiles p) f.dest f.dest 0 goes (omega arith))
+routed-is p n (Some f) Idle next goes =
+    ap Routed (get_or-map-range_with_len (route p n) 0 (tiles p) f.dest f.dest 0 goes (omega arith))
 routed-is p n (Some f) (Routed o) next goes = refl
 routed-is p n (Some f) (Active o w) next goes = refl
 
@@ -31,7 +32,8 @@ pub routed-value : (p : Plan) (n : ℕ) (outs : List ℕ) (front front' : Option
     → outs ≡ routes_of p n → front' ≡ front → s' ≡ s → next' ≡ next
     → GoesToTile p front → routed_by outs front' s' next' ≡ routed_next p n front s next
 routed-value p n outs front front' s s' next next' made ef es en goes =
-    ap (λ o. routed_by o front' s' next') made ∙ ap (λ f. routed_by (routes_of p n) f s' next') ef ∙ ap (λ t. routed_by (routes_of p n) front t next') es
+    ap (λ o. routed_by o front' s' next') made ∙ ap (λ f. routed_by (routes_of p n) f s' next') ef
+    ∙ ap (λ t. routed_by (routes_of p n) front t next') es
     ∙ ap (λ t. routed_by (routes_of p n) front s t) en ∙ routed-is p n front s next goes
 
 -- ---- one place is written
@@ -40,7 +42,8 @@ lane-length : {T : Type 0} (v : List (List T)) (d i e : ℕ) (x : T) → d < len
     → length (lane (set v d (set (lane v d) i x)) e) ≡ length (lane v e)
 lane-length v d i e x there = ⊎_elim
     (λ w. let same : e ≡ d = w.1 in
-    ap (λ k. length (lane (set v d (set (lane v d) i x)) k)) same ∙ ap length (get_or-set_same v d (set (lane v d) i x) _ there) ∙ length-set (lane v d) i x
+    ap (λ k. length (lane (set v d (set (lane v d) i x)) k)) same
+    ∙ ap length (get_or-set_same v d (set (lane v d) i x) _ there) ∙ length-set (lane v d) i x
     ∙ ap (λ k. length (lane v k)) (sym same))
     (λ w. ap length (lanes-other v d e i x w.1))
     (eqb_tells e d)
@@ -88,7 +91,8 @@ module _ (p : Plan) (n : ℕ) (fronts : List (List (Option Flit))) (stages old c
       and-false false b e = refl
 
   abbrev choice : Bool → ℕ → ℕ → Stage
-  choice b e k = if b then routed_next p n (front_at fronts e k) (stage_at stages e k) (stage_at old e k) else stage_at old e k
+  choice b e k =
+      if b then routed_next p n (front_at fronts e k) (stage_at stages e k) (stage_at old e k) else stage_at old e k
 
   pub routed-more : (e k : ℕ) → stage_at (with_stage cur d i next) e k ≡ routed_to (i + 1) p n fronts stages old d e k
   routed-more e k = ⊎_elim
