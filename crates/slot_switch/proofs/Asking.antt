@@ -25,7 +25,8 @@ pub lane-start : {T : Type 0} (u : List (List T)) (d : ℕ) → OnlyLane u u d
 lane-start u d = record { others = λ e apart. refl; places = refl; domains = refl }
 
 pub lane-then : {T : Type 0} (u v w : List (List T)) (d : ℕ) → OnlyLane u v d → OnlyLane v w d → OnlyLane u w d
-lane-then u v w d a b = record { others = λ e apart. b.others e apart ∙ a.others e apart; places = b.places ∙ a.places; domains = b.domains ∙ a.domains }
+lane-then u v w d a b =
+    record { others = λ e apart. b.others e apart ∙ a.others e apart; places = b.places ∙ a.places; domains = b.domains ∙ a.domains }
 
 pub lane-set : {T : Type 0} (u : List (List T)) (d k : ℕ) (x : T) → d < length u
     → OnlyLane u (slice_set u d (slice_set (lane u d) k x)) d
@@ -100,14 +101,16 @@ asking-start x p d port wheel stages fronts credits room quiet = record {
 -- a port that was cleared asks for nothing
 pub cleared-none : (x y : Switch) (d port : ℕ) → y ≡ with_ask x d port None → d < length x.asks
     → port < length (lane x.asks d) → ask_at y d port ≡ None
-cleared-none x y d port made there inside = ap (λ u. ask_at u d port) made ∙ lane-written x.asks d port None None there inside
+cleared-none x y d port made there inside =
+    ap (λ u. ask_at u d port) made ∙ lane-written x.asks d port None None there inside
 
 pub cleared-only : (x y : Switch) (d port : ℕ) → y ≡ with_ask x d port None → d < length x.asks → OnlyAsks x d y
 cleared-only x y d port made there = subst (OnlyAsks x d) (sym made) (only-asked x d port None there)
 
 pub cleared-others : (x y : Switch) (d port k : ℕ) → y ≡ with_ask x d port None → d < length x.asks → k ≢ port
     → ask_at y d k ≡ ask_at x d k
-cleared-others x y d port k made there apart = ap (λ u. ask_at u d k) made ∙ lane-other x.asks d port k None None there apart
+cleared-others x y d port k made there apart =
+    ap (λ u. ask_at u d k) made ∙ lane-other x.asks d port k None None there apart
 
 -- whether the channel is ready, by what it asks for
 none-ready : (p : Plan) (d n : ℕ) (t : ℤ) (s : Tile) (i : TileIn) (port c : ℕ) → None ≡ asking p d n t s i port c
@@ -129,7 +132,8 @@ some-ready p d n t s i port c g e = go (is_ready p d n t s i port c) refl
     go : (b : Bool) → is_ready p d n t s i port c ≡ b
         → (is_ready p d n t s i port c ≡ true) × (grant_at c (s.stage port c) ≡ Some g)
     go true is = (is, sym (e ∙ ap (λ b. if b then grant_at c (s.stage port c) else None) is))
-    go false is = absurd (let none : Some g ≡ None = e ∙ ap (λ b. if b then grant_at c (s.stage port c) else None) is in cc none)
+    go false is =
+        absurd (let none : Some g ≡ None = e ∙ ap (λ b. if b then grant_at c (s.stage port c) else None) is in cc none)
 
 pub asking-skip : (x y : Switch) (p : Plan) (d port m : ℕ) (wheel : Wheel) (stages : List (List Stage))
     (fronts : List (List (Option Flit)))
@@ -184,4 +188,5 @@ pub asking-end : (x y : Switch) (p : Plan) (d port m : ℕ) (wheel : Wheel) (sta
     → ask_at y d port ≡ asked p d n (pos t) s i port
 unfolding asked
 asking-end x y p d port m wheel stages fronts credits room all is n t s i shown turn =
-    is.best n t s i shown turn ∙ ap (option_and_then (λ c. grant_at c (s.stage port c))) (pick-end (in_channels p d port) (is_ready p d n (pos t) s i port) (s.turn port) m all)
+    is.best n t s i shown turn
+    ∙ ap (option_and_then (λ c. grant_at c (s.stage port c))) (pick-end (in_channels p d port) (is_ready p d n (pos t) s i port) (s.turn port) m all)

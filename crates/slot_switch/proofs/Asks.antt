@@ -39,7 +39,9 @@ module _ (p : Plan) where
 
   places : {T : Type 0} (x : T) (d : ℕ) → d < count
       → length (lane (map (λ d. replicate (ports p) x) (range_with_len 0 count)) d) ≡ ports p
-  places x d there = ap length (get_or-map-range_with_len (λ d. replicate (ports p) x) 0 count d d [] there (omega arith)) ∙ length-replicate (ports p) x
+  places x d there =
+      ap length (get_or-map-range_with_len (λ d. replicate (ports p) x) 0 count d d [] there (omega arith))
+      ∙ length-replicate (ports p) x
 
   lanes-many : {T : Type 0} (x : T) → length (map (λ d. replicate (ports p) x) (range_with_len 0 count)) ≡ count
   lanes-many x = length-map-range_with_len (λ d. replicate (ports p) x) 0 count
@@ -102,7 +104,8 @@ lane-length : {T : Type 0} (v : List (List T)) (d i e : ℕ) (x : T) → d < len
     → length (lane (set v d (set (lane v d) i x)) e) ≡ length (lane v e)
 lane-length v d i e x there = ⊎_elim
     (λ w. let same : e ≡ d = w.1 in
-    ap (λ k. length (lane (set v d (set (lane v d) i x)) k)) same ∙ ap length (get_or-set_same v d (set (lane v d) i x) _ there) ∙ length-set (lane v d) i x
+    ap (λ k. length (lane (set v d (set (lane v d) i x)) k)) same
+    ∙ ap length (get_or-set_same v d (set (lane v d) i x) _ there) ∙ length-set (lane v d) i x
     ∙ ap (λ k. length (lane v k)) (sym same))
     (λ w. ap length (get_or-set_other v d e (set (lane v d) i x) [] w.1))
     (eqb_tells e d)
@@ -112,7 +115,8 @@ with-channels : (x : Switch) (d port : ℕ) (n : Option Grant) → d < length x.
     → (e k : ℕ) (g : Grant) → ask_at (with_ask x d port n) e k ≡ Some g → g.channel < 8
 with-channels x d port n there old new e k g is = ⊎_elim
     (λ w. let own : lane (set x.asks d (set (lane x.asks d) port n)) e ≡ set (lane x.asks d) port n =
-    ap (lane (set x.asks d (set (lane x.asks d) port n))) w.1 ∙ get_or-set_same x.asks d (set (lane x.asks d) port n) [] there in
+    ap (lane (set x.asks d (set (lane x.asks d) port n))) w.1
+    ∙ get_or-set_same x.asks d (set (lane x.asks d) port n) [] there in
     let at : get_or (set (lane x.asks d) port n) k None ≡ Some g = sym (ap (λ l. get_or l k None) own) ∙ is in
     ⊎_elim
     (λ u. new g (set-some (lane x.asks d) port n g (ap (λ j. get_or (set (lane x.asks d) port n) j None) (sym u.1) ∙ at)))

@@ -26,7 +26,8 @@ pub first-none : (n pointer : ℕ) (grants : ℕ → Option Grant)
     → option_and_then grants (pick n (λ k. false) pointer) ≡ None
 unfolding pick
 first-none n pointer grants =
-    let late : least n (λ k. nat_le pointer k && false) ≡ None = none-least n (λ k. nat_le pointer k && false) (λ k. and-none (nat_le pointer k)) in
+    let late : least n (λ k. nat_le pointer k && false) ≡ None =
+    none-least n (λ k. nat_le pointer k && false) (λ k. and-none (nat_le pointer k)) in
     let all : least n (λ k. false) ≡ None = none-least n (λ k. false) (λ k. refl) in
     rw (late, all) refl
 
@@ -89,7 +90,8 @@ module _ (x : Switch) (p : Plan) (d n : ℕ) (t : ℤ) (s : Tile) (i : TileIn) (
     where
       go : (c : Option ℕ) → chosen p d n t s i o ≡ c
           → option_and_then (λ g. to_port (chosen p d n t s i g.out) r.port g) (asked p d n t s i r.port) ≡ Some r.grant
-      go None is = absurd (let bad : None ≡ Some r = sym (ap (option_and_then (granted_to x d)) (chosen-is o there ∙ is)) ∙ e in cc bad)
+      go None is =
+          absurd (let bad : None ≡ Some r = sym (ap (option_and_then (granted_to x d)) (chosen-is o there ∙ is)) ∙ e in cc bad)
       go (Some port) is = asks (ask_at x d port) refl
         where
           asks : (a : Option Grant) → ask_at x d port ≡ a
@@ -101,7 +103,8 @@ module _ (x : Switch) (p : Plan) (d n : ℕ) (t : ℤ) (s : Tile) (i : TileIn) (
               let found = chosen-port o port is in
               let asked_is : asked p d n t s i port ≡ Some g = sym (as_defined.asks port found.0) ∙ at in
               let out : g.out ≡ o = out-is (asked p d n t s i port) g o asked_is found.1 in
-              let P : Granted → Type 0 = λ v. option_and_then (λ g. to_port (chosen p d n t s i g.out) v.port g) (asked p d n t s i v.port) ≡ Some v.grant in
+              let P : Granted → Type 0 =
+              λ v. option_and_then (λ g. to_port (chosen p d n t s i g.out) v.port g) (asked p d n t s i v.port) ≡ Some v.grant in
               subst P same
               (ap (option_and_then (λ g. to_port (chosen p d n t s i g.out) port g)) asked_is
               ∙ ap (λ k. to_port (chosen p d n t s i k) port g) out ∙ ap (λ c. to_port c port g) is ∙ own-port port g)
@@ -121,9 +124,12 @@ module _ (x : Switch) (p : Plan) (d n : ℕ) (t : ℤ) (s : Tile) (i : TileIn) (
     where
       go : (a : Option Grant) → asked p d n t s i port ≡ a
           → granted_in x d g.out ≡ Some (record { port = port; grant = g })
-      go None is = absurd (let bad : None ≡ Some g = sym (ap (option_and_then (λ h. to_port (chosen p d n t s i h.out) port h)) is) ∙ e in cc bad)
+      go None is =
+          absurd (let bad : None ≡ Some g = sym (ap (option_and_then (λ h. to_port (chosen p d n t s i h.out) port h)) is) ∙ e in cc bad)
       go (Some h) is =
-          let both = port-is (chosen p d n t s i h.out) port h g (sym (ap (option_and_then (λ h. to_port (chosen p d n t s i h.out) port h)) is) ∙ e) in
+          let both =
+          port-is (chosen p d n t s i h.out) port h g (sym (ap (option_and_then (λ h. to_port (chosen p d n t s i h.out) port h)) is) ∙ e) in
           let asks : ask_at x d port ≡ Some g = as_defined.asks port there ∙ is ∙ ap Some both.1 in
-          let picked : chosen_in x d g.out ≡ Some port = chosen-is g.out out ∙ ap (λ (w : Grant). chosen p d n t s i w.out) (sym both.1) ∙ both.0 in
+          let picked : chosen_in x d g.out ≡ Some port =
+          chosen-is g.out out ∙ ap (λ (w : Grant). chosen p d n t s i w.out) (sym both.1) ∙ both.0 in
           ap (option_and_then (granted_to x d)) picked ∙ ap (option_map (λ g. let w : Granted = record { port = port; grant = g } in w)) asks

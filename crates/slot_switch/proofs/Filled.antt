@@ -19,7 +19,8 @@ filled-is x f n counts v is are = is ∙ ap (map (λ c. replicate c x)) are ∙ 
 pub filled-lane : {T : Type 0} (x : T) (f : ℕ → ℕ) (n : ℕ) (v : List (List T)) (d : ℕ)
     → v ≡ map (λ d. replicate (f d) x) (range_with_len 0 n)
     → d < n → lane v d ≡ replicate (f d) x
-filled-lane x f n v d is there = ap (λ w. lane w d) is ∙ get_or-map-range_with_len (λ e. replicate (f e) x) 0 n d d [] there (omega arith)
+filled-lane x f n v d is there =
+    ap (λ w. lane w d) is ∙ get_or-map-range_with_len (λ e. replicate (f e) x) 0 n d d [] there (omega arith)
 
 pub filled-places : {T : Type 0} (x : T) (f : ℕ → ℕ) (n : ℕ) (counts : List ℕ) (v : List (List T)) (d : ℕ)
     → v ≡ map (λ c. replicate c x) counts

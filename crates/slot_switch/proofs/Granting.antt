@@ -28,7 +28,8 @@ no-chosen x d o none = go (chosen_in x d o) refl
 
     go : (c : Option ℕ) → chosen_in x d o ≡ c → chosen_in x d o ≡ None
     go None is = is
-    go (Some port) is = asks port (ask_at x d port) refl (pick-member x.ports (λ k. asks_for (ask_at x d k) o) (switch_at x d o) port is).1 is
+    go (Some port) is =
+        asks port (ask_at x d port) refl (pick-member x.ports (λ k. asks_for (ask_at x d k) o) (switch_at x d o) port is).1 is
 
 -- what is known of a grant
 pub record IsGrant (x : Switch) (d o : ℕ) (r : Granted) : Type 0 where
@@ -52,7 +53,9 @@ is-grant x d o r some = go (chosen_in x d o) refl
 
     go : (c : Option ℕ) → chosen_in x d o ≡ c → IsGrant x d o r
     go None is = absurd (let bad : None ≡ Some r = sym (ap (option_and_then (granted_to x d)) is) ∙ some in cc bad)
-    go (Some port) is = let member = pick-member x.ports (λ k. asks_for (ask_at x d k) o) (switch_at x d o) port is in asks port (ask_at x d port) refl member.1 member.0 is
+    go (Some port) is =
+        let member = pick-member x.ports (λ k. asks_for (ask_at x d k) o) (switch_at x d o) port is in
+        asks port (ask_at x d port) refl member.1 member.0 is
 
 -- ---- the outputs below another
 
@@ -77,7 +80,8 @@ below-keep x d k o not = go (ask_at x d k)
         (λ (e : g.out ≡ o).
         let yes : nat_lt g.out (o + 1) ≡ true = grind (arith, nat_tests) in
         let no : nat_lt g.out o ≡ false = grind (arith, nat_tests) in
-        ap (λ b. if b then to_port (chosen_in x d g.out) k g else None) yes ∙ ap (λ j. to_port (chosen_in x d j) k g) e ∙ not g
+        ap (λ b. if b then to_port (chosen_in x d g.out) k g else None) yes ∙ ap (λ j. to_port (chosen_in x d j) k g) e
+        ∙ not g
         ∙ sym (ap (λ b. if b then to_port (chosen_in x d g.out) k g else None) no))
         (λ (apart : g.out ≢ o).
         let same : nat_lt g.out (o + 1) ≡ nat_lt g.out o = grind (arith, nat_tests) in
@@ -91,7 +95,8 @@ below-take x d k o g at out is =
     let yes : nat_lt g.out (o + 1) ≡ true = grind (arith, nat_tests) in
     let own : (k == k) ≡ true = grind (arith, nat_tests) in
     ap (option_and_then (λ g. if nat_lt g.out (o + 1) then to_port (chosen_in x d g.out) k g else None)) at
-    ∙ ap (λ b. if b then to_port (chosen_in x d g.out) k g else None) yes ∙ ap (λ j. to_port (chosen_in x d j) k g) out ∙ ap (λ c. to_port c k g) is
+    ∙ ap (λ b. if b then to_port (chosen_in x d g.out) k g else None) yes ∙ ap (λ j. to_port (chosen_in x d j) k g) out
+    ∙ ap (λ c. to_port c k g) is
     ∙ ap (λ b. if b then Some g else None) own
 
 other-port : (j k : ℕ) (g : Grant) → k ≢ j → to_port (Some j) k g ≡ None
@@ -132,12 +137,15 @@ module _ (x y : Switch) (u w : List (List (Option Grant))) (d o : ℕ) (there : 
       ∙ ap (pick x.ports (λ port. asks_for (ask_at x d port) o)) (have.picked o there ∙ switch-own x d o)
 
   pub same-granted : granted_in y d o ≡ granted_in x d o
-  same-granted = ap (option_and_then (granted_to y d)) same-chosen ∙ ap (λ (v : Switch). option_and_then (granted_to v d) (chosen_in x d o)) have.rest
+  same-granted =
+      ap (option_and_then (granted_to y d)) same-chosen
+      ∙ ap (λ (v : Switch). option_and_then (granted_to v d) (chosen_in x d o)) have.rest
 
   nothing : granted_in y d o ≡ None → HaveGranted x y u w d (o + 1)
   nothing none =
       let chosen : chosen_in x d o ≡ None = no-chosen x d o (sym same-granted ∙ none) in
-      let keep : (k : ℕ) → granted_below (o + 1) x d k ≡ granted_below o x d k = λ k. below-keep x d k o (λ g. ap (λ c. to_port c k g) chosen) in
+      let keep : (k : ℕ) → granted_below (o + 1) x d k ≡ granted_below o x d k =
+      λ k. below-keep x d k o (λ g. ap (λ c. to_port c k g) chosen) in
       record {
         rest = have.rest;
         given = λ k less. have.given k less ∙ ap Some (sym (keep k));
@@ -167,7 +175,11 @@ module _ (x y : Switch) (u w : List (List (Option Grant))) (d o : ℕ) (there : 
     turns_there = let a = have.turns.domains in let b = whole.turns in omega (arith, a, b, domain)
 
     turn_there : r.port < length (lane y.turns d)
-    turn_there = let a = have.turns.places in let b = whole.turn_places d domain in let c = is.below in omega (arith, a, b, c)
+    turn_there =
+        let a = have.turns.places in
+        let b = whole.turn_places d domain in
+        let c = is.below in
+        omega (arith, a, b, c)
 
     switches_there : d < length y.switches
     switches_there = let a = have.switches.domains in let b = whole.switches in omega (arith, a, b, domain)

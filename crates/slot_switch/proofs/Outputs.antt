@@ -42,7 +42,8 @@ pub takes-own : (p : Plan) (d n t o w k x b : ℕ) (s : Tile) (i : TileIn) (cred
 unfolding takes
 takes-own p d n t o w k x b s i credits room apart inside channel shown owns is at there =
     let own : (owner p n o (pos t) == d) ≡ true = let e : owner p n o (pos t) ≡ d = sym owns ∙ is in grind (arith, nat_tests) in
-    let same : x ≡ s.credits o w = cc (sym there ∙ ap (slice_get (lane credits d)) at ∙ shown.credit o w inside apart channel) in
+    let same : x ≡ s.credits o w =
+    cc (sym there ∙ ap (slice_get (lane credits d)) at ∙ shown.credit o w inside apart channel) in
     ap (nat_lt 0) same ∙ sym (ap (λ q. q && nat_lt 0 (s.credits o w)) own)
     ∙ sym (away o (is_none s.ejected || i.hears) ((owner p n o (pos t) == d) && nat_lt 0 (s.credits o w)) apart)
 

@@ -23,7 +23,8 @@ same-self : (x : Switch) (d : ℕ) → SameDomain x x d
 same-self x d = record { asks = refl; turns = refl; switches = refl }
 
 same-other : (x y : Switch) (d e : ℕ) → OnlyDomain x y d → e ≢ d → SameDomain x y e
-same-other x y d e only apart = record { asks = only.asks.others e apart; turns = only.turns.others e apart; switches = only.switches.others e apart }
+same-other x y d e only apart =
+    record { asks = only.asks.others e apart; turns = only.turns.others e apart; switches = only.switches.others e apart }
 
 same-then : (x y z : Switch) (d : ℕ) → SameDomain x y d → SameDomain y z d → SameDomain x z d
 same-then x y z d a b = record { asks = b.asks ∙ a.asks; turns = b.turns ∙ a.turns; switches = b.switches ∙ a.switches }

@@ -32,7 +32,8 @@ pub record AreAsking (x y : Switch) (p : Plan) (d m : ℕ) (wheel : Wheel) (stag
       → (k : ℕ) → k < m → ask_at y d k ≡ asked p d n (pos t) s i k
 
 still-for : (x y : Switch) (p : Plan) (d : ℕ) → OnlyAsks x d y → IsFor x p → IsFor y p
-still-for x y p d only made = record { domains = only.asks.domains ∙ made.domains; port_count = ap (λ (v : Switch). v.ports) only.rest ∙ made.port_count }
+still-for x y p d only made =
+    record { domains = only.asks.domains ∙ made.domains; port_count = ap (λ (v : Switch). v.ports) only.rest ∙ made.port_count }
 
 pub are-start : (x : Switch) (p : Plan) (d : ℕ) (wheel : Wheel) (stages : List (List Stage))
     (fronts : List (List (Option Flit)))
@@ -103,7 +104,8 @@ module _ (x y z : Switch) (u w : List (List (Option Grant))) (p : Plan) (d m : �
   grants-are : (n t : ℕ) (s : Tile) (i : TileIn) → IsShown p d n t s i wheel stages fronts credits room → Keeps x p d s
       → (k : ℕ) → k < ports p
       → granted_below y.ports y d k ≡ grant p d n (pos t) s i k
-  grants-are n t s i shown keeps k there = granted-is y p d n (pos t) s i stages fronts k (asks-as n t s i shown keeps) shown.channels there
+  grants-are n t s i shown keeps k there =
+      granted-is y p d n (pos t) s i stages fronts k (asks-as n t s i shown keeps) shown.channels there
 
   within : (k : ℕ) → k < ports p → k < y.ports
   within k there = let e = are.made.port_count in omega (arith, e, there)
