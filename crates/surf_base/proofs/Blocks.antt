@@ -8,7 +8,8 @@ use Rattle.surf_base.proofs.OutsideLemmas.{appended-nothing, appended-append, Ro
 
 -- nothing is put
 pub Puts-nothing : (s : Stream) → Puts s s []
-Puts-nothing s = record { front = []; sent = sym (appended-nothing s.written); kept = append-nil s.gathered; faults = omega arith }
+Puts-nothing s =
+    record { front = []; sent = sym (appended-nothing s.written); kept = append-nil s.gathered; faults = omega arith }
 
 -- two puts are one
 pub Puts-then : (s t u : Stream) (x y : List ℕ) → Puts s t x → Puts t u y → Puts s u (x ++ y)
@@ -55,12 +56,14 @@ Writes-err r e s t x y is p = rw is (BreaksOff-more s t x y p)
 -- a piece is gathered
 pub Puts-gathered : (w : Option (List ℕ)) (b b₁ piece : List ℕ) (f : ℕ) → b₁ ≡ b ++ piece
     → Puts (stream w b f) (stream w b₁ f) piece
-Puts-gathered w b b₁ piece f e = record { front = []; sent = sym (appended-nothing w); kept = sym e; faults = omega arith }
+Puts-gathered w b b₁ piece f e =
+    record { front = []; sent = sym (appended-nothing w); kept = sym e; faults = omega arith }
 
 -- all that is gathered is written
 pub Puts-flushed : (w w₁ : Option (List ℕ)) (b b₁ : List ℕ) (f g : ℕ) → w₁ ≡ appended w b → b₁ ≡ [] → f ≤ g
     → Puts (stream w b f) (stream w₁ b₁ g) []
-Puts-flushed w w₁ b b₁ f g sent empty faults = record { front = b; sent = sent; kept = ap (λ z. b ++ z) (sym empty); faults = faults }
+Puts-flushed w w₁ b b₁ f g sent empty faults =
+    record { front = b; sent = sent; kept = ap (λ z. b ++ z) (sym empty); faults = faults }
 
 -- a front of what is gathered was written
 pub BreaksOff-within : (w w₁ : Option (List ℕ)) (b b₁ : List ℕ) (f g : ℕ) → GotPrefix w w₁ b → f ≤ g → Rose f g
@@ -85,4 +88,5 @@ pub Writes-written : {T E : Type 0} (r : Result T E) (w w₁ : Option (List ℕ)
     → OnOk r (w₁ ≡ appended w piece) → OnErr r (GotPrefix w w₁ piece) → OnErr r (Rose f g) → f ≤ g
     → Writes r (stream w b f) (stream w₁ b g) piece
 Writes-written (Ok v) w w₁ b piece f g empty ok prefix rose le = Puts-written w w₁ b piece f g empty ok le
-Writes-written (Err e) w w₁ b piece f g empty ok prefix rose le = BreaksOff-written w w₁ b piece f g empty prefix le rose
+Writes-written (Err e) w w₁ b piece f g empty ok prefix rose le =
+    BreaksOff-written w w₁ b piece f g empty prefix le rose

@@ -34,7 +34,9 @@ pub appended-flushed : (w : Option (List ℕ)) (b : List ℕ) (f : ℕ) (t u : S
     → (u.written ≡ appended w bytes) × (f ≤ u.faults)
 appended-flushed w b f t u bytes empty p q last =
     let whole = Puts-then (stream w b f) t u bytes [] p q in
-    let kept : bytes ≡ whole.front = ap (λ z. z ++ bytes) (sym empty) ∙ ap (λ z. b ++ z) (sym (append-nil bytes)) ∙ whole.kept ∙ ap (λ z. whole.front ++ z) last ∙ append-nil whole.front in
+    let kept : bytes ≡ whole.front =
+    ap (λ z. z ++ bytes) (sym empty) ∙ ap (λ z. b ++ z) (sym (append-nil bytes)) ∙ whole.kept
+    ∙ ap (λ z. whole.front ++ z) last ∙ append-nil whole.front in
     (whole.sent ∙ ap (appended w) (sym kept), whole.faults)
 
 -- the answer of handing on, after the bytes are put
@@ -42,5 +44,9 @@ pub Writes-flushed : {T E : Type 0} (r : Result T E) (w : Option (List ℕ)) (b 
     (bytes : List ℕ) → b ≡ [] → Puts (stream w b f) t bytes
     → Writes r t u [] → OnOk r (u.gathered ≡ [])
     → (f ≤ u.faults) × OnOk r (u.written ≡ appended w bytes) × OnErr r (Rose f u.faults) × OnErr r (GotPrefix w u.written bytes)
-Writes-flushed (Ok v) w b f t u bytes empty p q last = let all = appended-flushed w b f t u bytes empty p q last in (all.1, all.0, tt, tt)
-Writes-flushed (Err e) w b f t u bytes empty p q last = let some = GotPrefix-last w b f t u bytes empty p q in (some.1, tt, some.2, some.0)
+Writes-flushed (Ok v) w b f t u bytes empty p q last =
+    let all = appended-flushed w b f t u bytes empty p q last in
+    (all.1, all.0, tt, tt)
+Writes-flushed (Err e) w b f t u bytes empty p q last =
+    let some = GotPrefix-last w b f t u bytes empty p q in
+    (some.1, tt, some.2, some.0)

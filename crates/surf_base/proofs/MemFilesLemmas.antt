@@ -28,7 +28,8 @@ held_in-put old new file name put named =
 pub held_in-others : (old new : List MemFile) (file : MemFile) (name other : List ℕ)
     → new ≡ old ++ file ∷ [] → file.name ≡ name → other ≢ name → held_in new other ≡ held_in old other
 held_in-others old new file name other put named differs =
-    let differs' : bytes_eq file.name other ≡ false = not_same (λ e. differs (sym (bytes_eq-same file.name other e) ∙ named)) in
+    let differs' : bytes_eq file.name other ≡ false =
+    not_same (λ e. differs (sym (bytes_eq-same file.name other e) ∙ named)) in
     rw (put, held_in-push old file other, differs') refl
   where
     bytes_eq-same : (xs ys : List ℕ) → bytes_eq xs ys ≡ true → xs ≡ ys
@@ -49,7 +50,8 @@ content_at-push old new file i put before =
 pub left-put : (opened : Bool) (taken i : ℕ) (old new : List MemFile) (file : MemFile)
     → (opened ≡ true → i < length old) → new ≡ old ++ file ∷ []
     → (if opened then Some (drop taken (content_at new i)) else None) ≡ (if opened then Some (drop taken (content_at old i)) else None)
-left-put true taken i old new file in_range put = ap (λ content. Some (drop taken content)) (content_at-push old new file i put (in_range refl))
+left-put true taken i old new file in_range put =
+    ap (λ content. Some (drop taken content)) (content_at-push old new file i put (in_range refl))
 left-put false taken i old new file in_range put = refl
 
 -- the first files and the next one
@@ -74,6 +76,7 @@ pub IsLast-differs : (files : List MemFile) (name : List ℕ) (n : ℕ) (file : 
     → n < length files → slice_get files n ≡ Some file → name ≢ file.name → IsLast files name n found
     → IsLast files name (n + 1) found
 IsLast-differs files name n file None before is differs last =
-    held_in-others (take n files) (take (n + 1) files) file file.name name (take_next files n file before is) refl differs ∙ last
+    held_in-others (take n files) (take (n + 1) files) file file.name name (take_next files n file before is) refl differs
+    ∙ last
 IsLast-differs files name n file (Some k) before is differs last =
     (last.0, held_in-others (take n files) (take (n + 1) files) file file.name name (take_next files n file before is) refl differs ∙ last.1)

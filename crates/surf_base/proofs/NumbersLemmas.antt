@@ -58,11 +58,14 @@ Reads-next_small radix bytes i value byte digit low high short within is below d
 -- all bytes are digits, and write this number
 pub Reads-all : (radix : ℕ) (bytes : List ℕ) (i value : ℕ) → length bytes ≤ i → Reads radix bytes i value
     → AllDigits radix bytes × (digits_value radix bytes ≡ value)
-Reads-all radix bytes i value past reads = let all = take_all i bytes past in (rw all at reads.digits, sym (rw all at reads.value_is))
+Reads-all radix bytes i value past reads =
+    let all = take_all i bytes past in
+    (rw all at reads.digits, sym (rw all at reads.value_is))
 
 -- one digit more than the number without its last digit
 pub length-decimal_step : (n : ℕ) → 10 ≤ n → n < 2 ^ 64 → length (decimal n) ≡ length (decimal (n / 10)) + 1
-length-decimal_step n large small = ap length (decimal_step n large small) ∙ length_push (decimal (n / 10)) (48 + n % 10)
+length-decimal_step n large small =
+    ap length (decimal_step n large small) ∙ length_push (decimal (n / 10)) (48 + n % 10)
 
 -- a last digit behind the others
 pub put_last : (buf digits : List ℕ) (count last : ℕ) → count < length buf → take count buf ≡ digits
