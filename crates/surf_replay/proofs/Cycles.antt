@@ -95,19 +95,29 @@ module _ (p : Plan) (m : Running) (sound : IsSound m.design) (v : Driver) (t : �
     owned n own = top-is n (subst (λ ps. has_input ps n ≡ true) (sym ports) (among p.hosts j h at-j n own))
 
     on-ov : at nets (codes "ov") h ≡ one_if (is_some o)
-    on-ov = let self = itself (host_name (codes "ov") h) in owned (host_name (codes "ov") h) (rw self refl) ∙ given-ov v t g.states p.hosts j h at-j distinct
+    on-ov =
+        let self = itself (host_name (codes "ov") h) in
+        owned (host_name (codes "ov") h) (rw self refl) ∙ given-ov v t g.states p.hosts j h at-j distinct
 
     on-oa : at nets (codes "oa") h ≡ address_of o
-    on-oa = let self = itself (host_name (codes "oa") h) in owned (host_name (codes "oa") h) (rw self refl) ∙ given-oa v t g.states p.hosts j h at-j distinct
+    on-oa =
+        let self = itself (host_name (codes "oa") h) in
+        owned (host_name (codes "oa") h) (rw self refl) ∙ given-oa v t g.states p.hosts j h at-j distinct
 
     on-op : at nets (codes "op") h ≡ payload_of o
-    on-op = let self = itself (host_name (codes "op") h) in owned (host_name (codes "op") h) (rw self refl) ∙ given-op v t g.states p.hosts j h at-j distinct
+    on-op =
+        let self = itself (host_name (codes "op") h) in
+        owned (host_name (codes "op") h) (rw self refl) ∙ given-op v t g.states p.hosts j h at-j distinct
 
     on-ol : at nets (codes "ol") h ≡ last_of o
-    on-ol = let self = itself (host_name (codes "ol") h) in owned (host_name (codes "ol") h) (rw self refl) ∙ given-ol v t g.states p.hosts j h at-j distinct
+    on-ol =
+        let self = itself (host_name (codes "ol") h) in
+        owned (host_name (codes "ol") h) (rw self refl) ∙ given-ol v t g.states p.hosts j h at-j distinct
 
     on-hr : at nets (codes "hr") h ≡ one_if (v.hears j (g.states j) t)
-    on-hr = let self = itself (host_name (codes "hr") h) in owned (host_name (codes "hr") h) (rw self refl) ∙ given-hr v t g.states p.hosts j h at-j distinct
+    on-hr =
+        let self = itself (host_name (codes "hr") h) in
+        owned (host_name (codes "hr") h) (rw self refl) ∙ given-hr v t g.states p.hosts j h at-j distinct
 
     offered : offer_at nets h ≡ o
     offered = read-offer o nets h on-ov on-oa on-op on-ol
@@ -145,7 +155,8 @@ module _ (p : Plan) (m : Running) (sound : IsSound m.design) (v : Driver) (t : �
           → seen_events t h (seen_at seen i) ≡ f h.tile
       own a i h e at-a mine =
           let same : i ≡ a = omega arith in
-          ap (λ z. seen_events t h (seen_at seen z)) same ∙ ap (seen_events t h) (saw a h at-a) ∙ events-so a h at-a ∙ ap (λ z. host_events t nets (host_of z h.tile)) mine
+          ap (λ z. seen_events t h (seen_at seen z)) same ∙ ap (seen_events t h) (saw a h at-a) ∙ events-so a h at-a
+          ∙ ap (λ z. host_events t nets (host_of z h.tile)) mine
 
 -- ---- cycle after cycle
 
@@ -187,7 +198,8 @@ module _ (p : Plan) (d : Design) (v : Driver) where
   next-replayed k n g =
       let one : n + 1 ≡ suc n = omega arith in
       let same : n ≡ 0 + n = omega arith in
-      ap (λ i. replayed p d v k n 0 g ++ Text k i (gone n 0 g)) same ∙ sym (replayed-more k n 0 g) ∙ ap (λ i. replayed p d v k i 0 g) (sym one)
+      ap (λ i. replayed p d v k n 0 g ++ Text k i (gone n 0 g)) same ∙ sym (replayed-more k n 0 g)
+      ∙ ap (λ i. replayed p d v k i 0 g) (sym one)
 
 pub none-past : {A : Type 0} (xs : List A) (j : ℕ) → slice_get xs j ≡ None → length xs ≤ j
 none-past [] j e = omega arith
@@ -209,7 +221,8 @@ port-same a b e =
     let name = one-name a.name b.name es.0 in
     let high = eqb-true a.high b.high fs.0 in
     let way = way-same a.output b.output fs.1 in
-    ap (λ n. port-of a.output a.high n) name ∙ ap (λ h. port-of a.output h b.name) high ∙ ap (λ w. port-of w b.high b.name) way
+    ap (λ n. port-of a.output a.high n) name ∙ ap (λ h. port-of a.output h b.name) high
+    ∙ ap (λ w. port-of w b.high b.name) way
   where
     port-of : Bool → ℕ → List ℕ → Port
     port-of w h n = record { output = w; high = h; name = n }
@@ -221,7 +234,9 @@ no-difference (x ∷ xs) [] i e = absurd (none-some i (sym e))
 no-difference (x ∷ xs) (y ∷ ys) i e = go (same_port x y) refl (no-difference xs ys (i + 1))
   where
     go : (b : Bool) → same_port x y ≡ b → (difference (i + 1) xs ys ≡ None → xs ≡ ys) → x ∷ xs ≡ y ∷ ys
-    go true same later = ap (λ z. z ∷ xs) (port-same x y same) ∙ ap (λ zs. y ∷ zs) (later (sym (ap (λ b. if b then difference (i + 1) xs ys else Some i) same) ∙ e))
+    go true same later =
+        ap (λ z. z ∷ xs) (port-same x y same)
+        ∙ ap (λ zs. y ∷ zs) (later (sym (ap (λ b. if b then difference (i + 1) xs ys else Some i) same) ∙ e))
     go false other later = absurd (none-some i (sym e ∙ ap (λ b. if b then difference (i + 1) xs ys else Some i) other))
 
 -- a design without the fault has the plan's ports

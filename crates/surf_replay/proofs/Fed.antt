@@ -21,7 +21,8 @@ module _ (v : Driver) (t : ℕ) (states : ℕ → List ℕ) where
   same-input : (hs : List Host) (j : ℕ) (n : Name)
       → inputs_of (flat_map host_ports hs) (all_numbers v t states j hs) n ≡ driven_inputs v t states j hs n
   same-input [] j n = refl
-  same-input (h ∷ hs) j n = ap (host_input h (v.offer j (states j) t) (v.hears j (states j) t) n) (same-input hs (j + 1) n)
+  same-input (h ∷ hs) j n =
+      ap (host_input h (v.offer j (states j) t) (v.hears j (states j) t) n) (same-input hs (j + 1) n)
 
   -- the numbers by the list are those by name
   pub same-inputs : (hs : List Host)

@@ -16,7 +16,8 @@ pub taken-more : {A : Type 0} (xs : List A) (i : ℕ) (x : A) → slice_get xs i
     → take (i + 1) xs ≡ take i xs ++ x ∷ []
 taken-more [] i x is = absurd (none-some x is)
 taken-more (y ∷ xs) zero x is = let one : y ≡ x = cc in ap (λ z. z ∷ []) one
-taken-more (y ∷ xs) (suc i) x is = rw (add-one (suc i)) (ap (λ z. y ∷ z) (ap (λ k. take k xs) (sym (add-one i)) ∙ taken-more xs i x is))
+taken-more (y ∷ xs) (suc i) x is =
+    rw (add-one (suc i)) (ap (λ z. y ∷ z) (ap (λ k. take k xs) (sym (add-one i)) ∙ taken-more xs i x is))
 
 module _ (v : Driver) (t : ℕ) (states : ℕ → List ℕ) where
   abbrev Numbers : ℕ → List ℕ
@@ -25,12 +26,15 @@ module _ (v : Driver) (t : ℕ) (states : ℕ → List ℕ) where
   numbers-behind : (j : ℕ) (hs : List Host) (h : Host) (k : ℕ) → k ≡ j + length hs
       → all_numbers v t states j (hs ++ h ∷ []) ≡ all_numbers v t states j hs ++ Numbers k
   numbers-behind j [] h k e = let same : j ≡ k = omega arith in append-nil (Numbers j) ∙ ap Numbers same
-  numbers-behind j (g ∷ hs) h k e = ap (λ z. Numbers j ++ z) (numbers-behind (j + 1) hs h k (omega arith)) ∙ sym (append_assoc (Numbers j) (all_numbers v t states (j + 1) hs) (Numbers k))
+  numbers-behind j (g ∷ hs) h k e =
+      ap (λ z. Numbers j ++ z) (numbers-behind (j + 1) hs h k (omega arith))
+      ∙ sym (append_assoc (Numbers j) (all_numbers v t states (j + 1) hs) (Numbers k))
 
   pub one-more-host : (hs : List Host) (j : ℕ) (h : Host) → slice_get hs j ≡ Some h → j ≤ length hs
       → all_numbers v t states 0 (take (j + 1) hs) ≡ all_numbers v t states 0 (take j hs) ++ Numbers j
   one-more-host hs j h at le =
-      ap (all_numbers v t states 0) (taken-more hs j h at) ∙ numbers-behind 0 (take j hs) h j (omega (arith, length-take-le j hs le))
+      ap (all_numbers v t states 0) (taken-more hs j h at)
+      ∙ numbers-behind 0 (take j hs) h j (omega (arith, length-take-le j hs le))
 
 bit-fits : (b : Bool) → one_if b < 2 ^ (0 + 1)
 bit-fits true = omega arith
