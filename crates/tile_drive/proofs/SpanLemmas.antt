@@ -9,7 +9,8 @@ use Rattle.tile_drive.specs.Scripts.{ends_from, end_at, AreSettled}
 
 -- the first n spans begin by the cycle, and no other does
 abbrev Begun : ℕ → List Span → ℕ → Type 0
-Begun t spans n = IsPartitionPoint (λ (span : Span). leb span.cycle t ≡ true) (λ (span : Span). leb span.cycle t ≡ false) spans n
+Begun t spans n =
+    IsPartitionPoint (λ (span : Span). leb span.cycle t ≡ true) (λ (span : Span). leb span.cycle t ≡ false) spans n
 
 -- the ends behind the first
 end_at-cons : (m e : ℕ) (ends : List ℕ) (n : ℕ) → end_at m (e ∷ ends) (suc n) ≡ end_at e ends n
