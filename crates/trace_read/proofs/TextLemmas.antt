@@ -52,7 +52,8 @@ fields-take rest some inside =
     let long : length (take e rest) ≡ e = omega (arith, length-take e rest) in
     let field : is_field (take e rest) ≡ true = grind (arith, nat_tests) in
     let blank : is_blank (get_or rest e 0) ≡ true = passes_at_first is_blank rest 0 inside in
-    let split : slice_split is_blank rest ≡ take e rest ∷ slice_split is_blank (drop (e + 1) rest) = slice_split_first is_blank rest 0 inside in
+    let split : slice_split is_blank rest ≡ take e rest ∷ slice_split is_blank (drop (e + 1) rest) =
+    slice_split_first is_blank rest 0 inside in
     let behind : slice_split is_blank (drop e rest) ≡ [] ∷ slice_split is_blank (drop (e + 1) rest) =
     rw (drop-cons rest e 0 inside, slice_split-cons_yes is_blank (get_or rest e 0) (drop (suc e) rest) blank, add-one e) refl in
     rw (split, behind, field) refl
@@ -109,7 +110,8 @@ pub line_first : (bytes : List ℕ) → position_or_len is_feed bytes < length b
     → lines bytes ≡ strip_carriage_return (take (position_or_len is_feed bytes) bytes) ∷ lines (drop (position_or_len is_feed bytes + 1) bytes)
 line_first bytes inside =
     let behind = drop (position_or_len is_feed bytes + 1) bytes in
-    let split : slice_split is_feed bytes ≡ take (position_or_len is_feed bytes) bytes ∷ slice_split is_feed behind = slice_split_first is_feed bytes 0 inside in
+    let split : slice_split is_feed bytes ≡ take (position_or_len is_feed bytes) bytes ∷ slice_split is_feed behind =
+    slice_split_first is_feed bytes 0 inside in
     let some : 0 < length (slice_split is_feed behind) = omega (arith, length-slice_split is_feed behind) in
     ap lines_of_parts split ∙ part-before _ _ some
 
@@ -148,7 +150,8 @@ pub one_line_at : (bytes line : List ℕ) (stop : ℕ) → stop ≡ position_or_
     → lines bytes ≡ line ∷ lines (take (length bytes - (stop + 1)) (drop (stop + 1) bytes))
 one_line_at bytes line stop stop_is within inside line_is =
     let found = line_first bytes (omega arith) in
-    let found' : lines bytes ≡ strip_carriage_return (take stop bytes) ∷ lines (drop (stop + 1) bytes) = rw stop_is found in
+    let found' : lines bytes ≡ strip_carriage_return (take stop bytes) ∷ lines (drop (stop + 1) bytes) =
+    rw stop_is found in
     found' ∙ rw (line_is, rest-is bytes (stop + 1)) refl
 
 pub last_line_at : (bytes : List ℕ) (stop : ℕ) → stop ≡ position_or_len is_feed bytes → stop ≡ length bytes

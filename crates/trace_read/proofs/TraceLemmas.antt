@@ -35,5 +35,6 @@ pub trace_done : (p : Plan) (bytes rest : List ℕ) (trace : List Entry) (n : �
 unfolding trace_of first_fault
 trace_done p bytes rest trace n none same clean =
     let clean' : fault_from p 1 (lines bytes) ≡ None = sym clean ∙ ap (λ r. fault_from p n (lines r)) none in
-    let same' : entries p (lines bytes) ≡ trace = sym same ∙ ap (λ r. trace ++ entries p (lines r)) none ∙ append-nil trace in
+    let same' : entries p (lines bytes) ≡ trace =
+    sym same ∙ ap (λ r. trace ++ entries p (lines r)) none ∙ append-nil trace in
     rw (clean', same') refl
