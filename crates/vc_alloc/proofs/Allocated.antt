@@ -141,8 +141,10 @@ module _ (p : Plan) (d n : ℕ) (s : Tile) where
   stage-is : (x : Allocator) (m k : ℕ) (st next : Stage) → ports p ≤ m → ((o : ℕ) → o < m → best_at x o ≡ best o)
       → st ≡ s.stage (input_port p d k) (input_channel p d k)
       → ((o : ℕ) → st ≡ Routed o → o < m) → stage_below m x k next ≡ allocated p d n s k st next
-  stage-is x m k Idle next all bests is routed = stage-quiet m x k next (λ o less v. ap (λ b. stage_after o b k v) (bests o less) ∙ not-picked o k Idle is refl v)
-  stage-is x m k (Active q w) next all bests is routed = stage-quiet m x k next (λ o less v. ap (λ b. stage_after o b k v) (bests o less) ∙ not-picked o k (Active q w) is refl v)
+  stage-is x m k Idle next all bests is routed =
+      stage-quiet m x k next (λ o less v. ap (λ b. stage_after o b k v) (bests o less) ∙ not-picked o k Idle is refl v)
+  stage-is x m k (Active q w) next all bests is routed =
+      stage-quiet m x k next (λ o less v. ap (λ b. stage_after o b k v) (bests o less) ∙ not-picked o k (Active q w) is refl v)
   stage-is x m k (Routed q) next all bests is routed =
       let there = routed q refl in
       stage-one m x k q next there
@@ -184,7 +186,9 @@ module _ (x x0 x1 y : Allocator) (stages u v : List (List Stage)) (p : Plan) (d 
   same-pointer o = ap (λ (w : Allocator). pointer_at w d o) knows ∙ ap (λ (w : Allocator). pointer_at w d o) forgot
 
   same-channels : link_channels_at x1 d ≡ link_channels p d
-  same-channels = ap (λ (w : Allocator). link_channels_at w d) knows ∙ ap (λ (w : Allocator). link_channels_at w d) forgot ∙ made.link
+  same-channels =
+      ap (λ (w : Allocator). link_channels_at w d) knows ∙ ap (λ (w : Allocator). link_channels_at w d) forgot
+      ∙ made.link
 
   there-too : (o : ℕ) → o < ports p → o < length x1.best
   there-too o there = let e = outputs in omega (arith, e, there)
@@ -240,8 +244,10 @@ module _ (x x0 x1 y : Allocator) (stages u v : List (List Stage)) (p : Plan) (d 
 
   pub only-domain : OnlyDomain x y d
   only-domain =
-      let with_new : Allocator → Allocator = λ w. record w { holders = y.holders; pointers = y.pointers; best = y.best } in
-      let same : x1 ≡ record x { best = x1.best } = knows ∙ ap (λ (w : Allocator). let z : Allocator = record w { best = x1.best } in z) forgot in
+      let with_new : Allocator → Allocator =
+      λ w. record w { holders = y.holders; pointers = y.pointers; best = y.best } in
+      let same : x1 ≡ record x { best = x1.best } =
+      knows ∙ ap (λ (w : Allocator). let z : Allocator = record w { best = x1.best } in z) forgot in
       record {
         rest = have.only.rest ∙ ap with_new same;
         outputs = have.only.outputs ∙ outputs1 ∙ outputs0;

@@ -25,7 +25,8 @@ and-none false = refl
 pub first-none : (n pointer : ℕ) (free : ℕ → Option ℕ) → winner_with free (pick n (λ k. false) pointer) ≡ None
 unfolding pick
 first-none n pointer free =
-    let late : least n (λ k. nat_le pointer k && false) ≡ None = none-least n (λ k. nat_le pointer k && false) (λ k. and-none (nat_le pointer k)) in
+    let late : least n (λ k. nat_le pointer k && false) ≡ None =
+    none-least n (λ k. nat_le pointer k && false) (λ k. and-none (nat_le pointer k)) in
     let all : least n (λ k. false) ≡ None = none-least n (λ k. false) (λ k. refl) in
     rw (late, all) refl
 
@@ -72,7 +73,8 @@ pub winner-free : (p : Plan) (d n o : ℕ) (s : Tile) (k : ℕ) → winner p d n
 unfolding winner
 winner-free p d n o s k e =
     let member = pick-member (input_count p d) (is_candidate p d n s o) (s.allocation o) k e in
-    let rest = and-both (nat_lt (input_channel p d k) (in_channels p d (input_port p d k))) (waits_for (s.stage (input_port p d k) (input_channel p d k)) o && is_some (free_at p d n s o k)) member.1 in
+    let rest =
+    and-both (nat_lt (input_channel p d k) (in_channels p d (input_port p d k))) (waits_for (s.stage (input_port p d k) (input_channel p d k)) o && is_some (free_at p d n s o k)) member.1 in
     (and-both (waits_for (s.stage (input_port p d k) (input_channel p d k)) o) (is_some (free_at p d n s o k)) rest.1).1
 
 place-is : (free : ℕ → Option ℕ) (o : Option ℕ) → ((k : ℕ) → o ≡ Some k → is_some (free k) ≡ true)

@@ -19,7 +19,8 @@ pub lane-start : {T : Type 0} (u : List (List T)) (d : ℕ) → OnlyLane u u d
 lane-start u d = record { others = λ e apart. refl; places = refl; domains = refl }
 
 pub lane-then : {T : Type 0} (u v w : List (List T)) (d : ℕ) → OnlyLane u v d → OnlyLane v w d → OnlyLane u w d
-lane-then u v w d a b = record { others = λ e apart. b.others e apart ∙ a.others e apart; places = b.places ∙ a.places; domains = b.domains ∙ a.domains }
+lane-then u v w d a b =
+    record { others = λ e apart. b.others e apart ∙ a.others e apart; places = b.places ∙ a.places; domains = b.domains ∙ a.domains }
 
 pub lane-set : {T : Type 0} (u : List (List T)) (d k : ℕ) (x : T) → d < length u
     → OnlyLane u (slice_set u d (slice_set (lane u d) k x)) d
@@ -73,7 +74,8 @@ module _ (x y : Allocator) (u w : List (List Stage)) (d o : ℕ) (there : o < le
     same = have.same;
     best = λ k. have.best k ∙ ⊎_elim
         (λ (e : k ≡ o).
-        let B : ℕ → Type 0 = λ j. (if nat_lt j o then None else best_at x j) ≡ (if nat_lt j (o + 1) then None else best_at x j) in
+        let B : ℕ → Type 0 =
+        λ j. (if nat_lt j o then None else best_at x j) ≡ (if nat_lt j (o + 1) then None else best_at x j) in
         subst B (sym e) (below-own o None (best_at x o) ∙ none ∙ sym (below-done o (o + 1) None (best_at x o) (omega arith))))
         (λ (apart : k ≢ o). sym (below-other k o None (best_at x k) apart))
         (cases_eq k o);
@@ -132,7 +134,8 @@ module _ (x y : Allocator) (u w : List (List Stage)) (d o : ℕ) (there : o < le
 
     spots : (k c : ℕ) → k < length x.best → c < link_channels_at x d → spot y d k c < length (lane y.holders d)
     spots k c inside below =
-        let most : k * link_channels_at x d + c < link_channels_at x d * length x.best = mul-add-lt k (link_channels_at x d) c (length x.best) inside below in
+        let most : k * link_channels_at x d + c < link_channels_at x d * length x.best =
+        mul-add-lt k (link_channels_at x d) c (length x.best) inside below in
         let turn = mul_comm (length x.best) (link_channels_at x d) in
         let a = have.only.holders.places in
         let e = whole.spots d domain in
@@ -162,8 +165,10 @@ module _ (x y : Allocator) (u w : List (List Stage)) (d o : ℕ) (there : o < le
     spot-apart : (k c : ℕ) → c < link_channels_at x d → spot y d k c ≡ spot y d o b.to → (k ≡ o) × (c ≡ b.to)
     spot-apart k c below e =
         let low : c < link_channels_at y d = let a = channels-now in omega (arith, a, below) in (
-          sym (div-mul-add k (link_channels_at y d) c low) ∙ ap (λ n. n / link_channels_at y d) e ∙ div-mul-add o (link_channels_at y d) b.to of.1,
-          sym (mod-mul-add k (link_channels_at y d) c low) ∙ ap (λ n. n % link_channels_at y d) e ∙ mod-mul-add o (link_channels_at y d) b.to of.1,
+          sym (div-mul-add k (link_channels_at y d) c low) ∙ ap (λ n. n / link_channels_at y d) e
+              ∙ div-mul-add o (link_channels_at y d) b.to of.1,
+          sym (mod-mul-add k (link_channels_at y d) c low) ∙ ap (λ n. n % link_channels_at y d) e
+              ∙ mod-mul-add o (link_channels_at y d) b.to of.1,
         )
 
     held-next : (k c : ℕ) → k < length x.best → c < link_channels_at x d
@@ -182,12 +187,14 @@ module _ (x y : Allocator) (u w : List (List Stage)) (d o : ℕ) (there : o < le
         own : (c ≡ b.to) ⊎ (c ≢ b.to) → holder_at next d o c ≡ (if b.to == c then Some b.place else holder_at x d o c)
         own (inl e) =
             let yes : (b.to == c) ≡ true = grind (arith, nat_tests) in
-            ap (holder_at next d o) e ∙ lane-written y.holders d (spot y d o b.to) (Some b.place) None holders_there (spots o b.to there channel)
+            ap (holder_at next d o) e
+            ∙ lane-written y.holders d (spot y d o b.to) (Some b.place) None holders_there (spots o b.to there channel)
             ∙ sym (ap (λ t. if t then Some b.place else holder_at x d o c) yes)
         own (inr apart) =
             let no : (b.to == c) ≡ false = grind (arith, nat_tests) in
             lane-other y.holders d (spot y d o b.to) (spot y d o c) (Some b.place) None holders_there (λ e. apart (spot-apart o c below e).1)
-            ∙ have.held o c there below ∙ below-own o (held_after (best_at x o) c (holder_at x d o c)) (holder_at x d o c)
+            ∙ have.held o c there below
+            ∙ below-own o (held_after (best_at x o) c (holder_at x d o c)) (holder_at x d o c)
             ∙ sym (ap (λ t. if t then Some b.place else holder_at x d o c) no)
 
     moved-next : (k : ℕ) → k < length x.best → pointer_at next d k ≡ pointer_below (o + 1) x d k
@@ -203,7 +210,8 @@ module _ (x y : Allocator) (u w : List (List Stage)) (d o : ℕ) (there : o < le
 
     active-next : (k : ℕ) → k < length (lane u d) → stage_at put d k ≡ stage_below (o + 1) x k (stage_at u d k)
     active-next k inside =
-        here (cases_eq k b.place) ∙ sym (ap (λ a. stage_after o a k (stage_below o x k (stage_at u d k))) was) ∙ sym (stage-next o x k (stage_at u d k))
+        here (cases_eq k b.place) ∙ sym (ap (λ a. stage_after o a k (stage_below o x k (stage_at u d k))) was)
+        ∙ sym (stage-next o x k (stage_at u d k))
       where
         here : (k ≡ b.place) ⊎ (k ≢ b.place)
             → stage_at put d k ≡ (if b.place == k then Active o b.to else stage_below o x k (stage_at u d k))

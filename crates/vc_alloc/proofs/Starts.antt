@@ -18,7 +18,8 @@ use Rattle.vc_alloc.specs.Shown.{IsFor}
 pub one-more : (f : ℕ → ℕ) (xs ys : List ℕ) (d k : ℕ) → ys ≡ xs ++ k ∷ [] → xs ≡ map f (range_with_len 0 d) → k ≡ f d
     → ys ≡ map f (range_with_len 0 (d + 1))
 one-more f xs ys d k pushed before is =
-    pushed ∙ ap (λ l. l ++ k ∷ []) before ∙ ap (λ o. map f (range_with_len 0 d) ++ o ∷ []) is ∙ sym (map-range_with_len_more f 0 d d (omega arith))
+    pushed ∙ ap (λ l. l ++ k ∷ []) before ∙ ap (λ o. map f (range_with_len 0 d) ++ o ∷ []) is
+    ∙ sym (map-range_with_len_more f 0 d d (omega arith))
 
 -- lanes by number
 pub map-lanes : {T : Type 0} (f : ℕ → ℕ) (x : T) (xs : List ℕ)
@@ -28,7 +29,9 @@ map-lanes f x (y ∷ ys) = ap (λ zs. replicate (f y) x ∷ zs) (map-lanes f x y
 
 lane-length : {T : Type 0} (f : ℕ → ℕ) (x : T) (n d : ℕ) → d < n
     → length (lane (map (λ d. replicate (f d) x) (range_with_len 0 n)) d) ≡ f d
-lane-length f x n d there = ap length (get_or-map-range_with_len (λ d. replicate (f d) x) 0 n d d [] there (omega arith)) ∙ length-replicate (f d) x
+lane-length f x n d there =
+    ap length (get_or-map-range_with_len (λ d. replicate (f d) x) 0 n d d [] there (omega arith))
+    ∙ length-replicate (f d) x
 
 within : (t : Bool) (c : ℕ) → c ≤ (if t then 2 else 1) * c
 within true c = omega arith
@@ -51,7 +54,8 @@ module _ (p : Plan) (sound : IsSound p) (n : ℕ) where
   has-channels : (d : ℕ) → d < count → (1 ≤ channels p d) × (channels p d ≤ 4)
   has-channels d there =
       let none : DomainPart = record { name = []; channels = 0 } in
-      let is : channels p d ≡ (get_or p.domains d none).channels = ap channels_in (slice_get-get_or p.domains d none there) in
+      let is : channels p d ≡ (get_or p.domains d none).channels =
+      ap channels_in (slice_get-get_or p.domains d none there) in
       let have = sound.channels d none there in
       (omega (arith, is, have), omega (arith, is, have))
 

@@ -24,7 +24,8 @@ same-self : (x : Allocator) (d : ℕ) → SameDomain x x d
 same-self x d = record { tile = refl; channels = refl; holders = refl; pointers = refl }
 
 back : (x y : Allocator) (d : ℕ) → SameDomain x y d → SameDomain y x d
-back x y d same = record { tile = sym same.tile; channels = sym same.channels; holders = sym same.holders; pointers = sym same.pointers }
+back x y d same =
+    record { tile = sym same.tile; channels = sym same.channels; holders = sym same.holders; pointers = sym same.pointers }
 
 same-other : (x y : Allocator) (d e : ℕ) → OnlyDomain x y d → e ≢ d → SameDomain x y e
 same-other x y d e only apart = record {
@@ -35,10 +36,13 @@ same-other x y d e only apart = record {
 }
 
 same-then : (x y z : Allocator) (d : ℕ) → SameDomain x y d → SameDomain y z d → SameDomain x z d
-same-then x y z d a b = record { tile = b.tile ∙ a.tile; channels = b.channels ∙ a.channels; holders = b.holders ∙ a.holders; pointers = b.pointers ∙ a.pointers }
+same-then x y z d a b =
+    record { tile = b.tile ∙ a.tile; channels = b.channels ∙ a.channels; holders = b.holders ∙ a.holders; pointers = b.pointers ∙ a.pointers }
 
 same-holder : (x y : Allocator) (d o w : ℕ) → SameDomain x y d → holder_at y d o w ≡ holder_at x d o w
-same-holder x y d o w same = ap (λ n. slice_index_or (lane y.holders d) (o * n + w) None) same.channels ∙ ap (λ l. slice_index_or l (o * link_channels_at x d + w) None) same.holders
+same-holder x y d o w same =
+    ap (λ n. slice_index_or (lane y.holders d) (o * n + w) None) same.channels
+    ∙ ap (λ l. slice_index_or l (o * link_channels_at x d + w) None) same.holders
 
 same-pointer : (x y : Allocator) (d o : ℕ) → SameDomain x y d → pointer_at y d o ≡ pointer_at x d o
 same-pointer x y d o same = ap (λ l. slice_index_or l o 0) same.pointers

@@ -58,7 +58,8 @@ module _ (p : Plan) (d : ℕ) (x : Allocator) (stages : List (List Stage)) (s : 
       (eqb_tells k i)
 
   same-best : (o i : ℕ) → candidate o i ≡ false → best_sofar o i ≡ best_sofar o (i + 1)
-  same-best o i none = ap (winner_with (free_at p d tile s o)) (pick-same many (sofar o i) (sofar o (i + 1)) (s.allocation o) (s.allocation o) (λ k below. same-set o i none k) refl)
+  same-best o i none =
+      ap (winner_with (free_at p d tile s o)) (pick-same many (sofar o i) (sofar o (i + 1)) (s.allocation o) (s.allocation o) (λ k below. same-set o i none k) refl)
 
   stage-is : (i : ℕ) (st : Stage) → i < many → st ≡ stage_at stages d i
       → st ≡ s.stage (input_port p d i) (input_channel p d i)
@@ -73,12 +74,14 @@ module _ (p : Plan) (d : ℕ) (x : Allocator) (stages : List (List Stage)) (s : 
 
   not-there : (o i : ℕ) → nat_lt (input_channel p d i) (in_channels p d (input_port p d i)) ≡ false
       → candidate o i ≡ false
-  not-there o i none = ap (λ b. b && (waits_for (s.stage (input_port p d i) (input_channel p d i)) o && is_some (free_at p d tile s o i))) none
+  not-there o i none =
+      ap (λ b. b && (waits_for (s.stage (input_port p d i) (input_channel p d i)) o && is_some (free_at p d tile s o i))) none
 
   have-free : (o i : ℕ) → HaveFree many (sofar o i) (free_at p d tile s o)
   have-free o i k below e =
       let c = (and-both (nat_lt k i) (candidate o k) e).1 in
-      let rest = (and-both (nat_lt (input_channel p d k) (in_channels p d (input_port p d k))) (waits_for (s.stage (input_port p d k) (input_channel p d k)) o && is_some (free_at p d tile s o k)) c).1 in
+      let rest =
+      (and-both (nat_lt (input_channel p d k) (in_channels p d (input_port p d k))) (waits_for (s.stage (input_port p d k) (input_channel p d k)) o && is_some (free_at p d tile s o k)) c).1 in
       (and-both (waits_for (s.stage (input_port p d k) (input_channel p d k)) o) (is_some (free_at p d tile s o k)) rest).1
 
   -- an input that waits for the output and whose channel is there: the set has it too, if a channel is free for it
@@ -108,7 +111,8 @@ module _ (p : Plan) (d : ℕ) (x : Allocator) (stages : List (List Stage)) (s : 
   holds o there = record { channels = made.class; held = λ w below. shows.held o w there below }
 
   class-there : (i o : ℕ) → i < many → class_of p d tile (input_port p d i) (input_channel p d i) o < classes p
-  class-there i o below = class-few p tile (input_port p d i) (unpack p d (input_channel p d i)).0 o (class-below p d (input_channel p d i) (channel-below p d i below))
+  class-there i o below =
+      class-few p tile (input_port p d i) (unpack p d (input_channel p d i)).0 o (class-below p d (input_channel p d i) (channel-below p d i below))
 
   module _ (bs : List (Option Winner)) (i : ℕ) (below : i < many) (long : length bs ≡ ports p) (before : (o : ℕ) → o < ports p → get_or bs o None ≡ best_sofar o i) where
     abbrev cur : Allocator
@@ -148,7 +152,8 @@ module _ (p : Plan) (d : ℕ) (x : Allocator) (stages : List (List Stage)) (s : 
     pub step-best : (st : Stage) → st ≡ stage_at stages d i → GoesBelow (ports p) st → (o : ℕ) → o < ports p
         → best_at (wanted_at cur p d i st) o ≡ best_sofar o (i + 1)
     step-best Idle e goes o inside = before o inside ∙ same-best o i (not-waiting o i Idle below e refl)
-    step-best (Active out w) e goes o inside = before o inside ∙ same-best o i (not-waiting o i (Active out w) below e refl)
+    step-best (Active out w) e goes o inside =
+        before o inside ∙ same-best o i (not-waiting o i (Active out w) below e refl)
     step-best (Routed out) e goes o inside = go (nat_lt (input_channel p d i) (in_channels p d (input_port p d i))) refl
       where
         go : (b : Bool) → nat_lt (input_channel p d i) (in_channels p d (input_port p d i)) ≡ b
