@@ -89,7 +89,9 @@ start-all (c ∷ cs) = let e = start-all cs in omega (arith, e)
 
 pub start-is : {T : Type 0} (xs : List T) (cs ss : List ℕ) (d k : ℕ) → IsCut xs cs ss → d < length cs
     → k ≡ get_or ss d k → k ≡ start_of cs d
-start-is xs cs ss d k is there at = at ∙ ap (λ ys. get_or ys d k) is.begin ∙ get_or-map-range_with_len (start_of cs) 0 (length cs) d d k there (omega arith)
+start-is xs cs ss d k is there at =
+    at ∙ ap (λ ys. get_or ys d k) is.begin
+    ∙ get_or-map-range_with_len (start_of cs) 0 (length cs) d d k there (omega arith)
 
 -- a call at place i of lane d, which begins at k
 pub record IsAt {T : Type 0} (xs : List T) (cs ss : List ℕ) (d i k : ℕ) (v : List (List T)) : Type 0 where
@@ -126,7 +128,10 @@ is-at xs cs ss d i k v is view there inside at =
 
 pub at-within : {T : Type 0} {xs : List T} {cs ss : List ℕ} {d i k : ℕ} {v : List (List T)} → IsAt xs cs ss d i k v
     → k + i < length xs
-at-within {xs} {cs} {ss} {d} {i} {k} {v} a = let b = place-within xs cs d i a.whole.whole a.there a.inside in let c = a.start in omega (arith, b, c)
+at-within {xs} {cs} {ss} {d} {i} {k} {v} a =
+    let b = place-within xs cs d i a.whole.whole a.there a.inside in
+    let c = a.start in
+    omega (arith, b, c)
 
 pub at-fits : {T : Type 0} {xs : List T} {cs ss : List ℕ} {d i k : ℕ} {v : List (List T)} → IsAt xs cs ss d i k v
     → k + i < 2 ^ 32
@@ -145,23 +150,30 @@ at-set {xs} {cs} {ss} {d} {i} {k} {v} x a =
     ∙ ap (λ w. set w d (set (lane w d) i x)) a.is
 
 pub set-cut : {T : Type 0} {xs : List T} {cs ss : List ℕ} (j : ℕ) (x : T) → IsCut xs cs ss → IsCut (set xs j x) cs ss
-set-cut {xs} j x is = let a = length-set xs j x in record { whole = is.whole ∙ sym a; few = omega (arith, a, is.few); begin = is.begin }
+set-cut {xs} j x is =
+    let a = length-set xs j x in
+    record { whole = is.whole ∙ sym a; few = omega (arith, a, is.few); begin = is.begin }
 
 pub new-cut : {T : Type 0} (x : T) (cs : List ℕ) → total cs < 2 ^ 32
     → IsCut (replicate (total cs) x) cs (map (start_of cs) (range_with_len 0 (length cs)))
-new-cut x cs few = let a = length-replicate (total cs) x in record { whole = sym a; few = omega (arith, a, few); begin = refl }
+new-cut x cs few =
+    let a = length-replicate (total cs) x in
+    record { whole = sym a; few = omega (arith, a, few); begin = refl }
 
 -- ---- the frame rule, in terms of places
 
 -- the place that was written has the value
 pub lane-written : {T : Type 0} (v : List (List T)) (d i : ℕ) (x y : T) → d < length v → i < length (lane v d)
     → get_or (lane (set v d (set (lane v d) i x)) d) i y ≡ x
-lane-written v d i x y there inside = ap (λ l. get_or l i y) (get_or-set_same v d (set (lane v d) i x) [] there) ∙ get_or-set_same (lane v d) i x y inside
+lane-written v d i x y there inside =
+    ap (λ l. get_or l i y) (get_or-set_same v d (set (lane v d) i x) [] there) ∙ get_or-set_same (lane v d) i x y inside
 
 -- another place of the same lane stays
 pub lane-other : {T : Type 0} (v : List (List T)) (d i j : ℕ) (x y : T) → d < length v → j ≢ i
     → get_or (lane (set v d (set (lane v d) i x)) d) j y ≡ get_or (lane v d) j y
-lane-other v d i j x y there apart = ap (λ l. get_or l j y) (get_or-set_same v d (set (lane v d) i x) [] there) ∙ get_or-set_other (lane v d) i j x y apart
+lane-other v d i j x y there apart =
+    ap (λ l. get_or l j y) (get_or-set_same v d (set (lane v d) i x) [] there)
+    ∙ get_or-set_other (lane v d) i j x y apart
 
 -- another lane stays
 pub lanes-other : {T : Type 0} (v : List (List T)) (d e i : ℕ) (x : T) → e ≢ d

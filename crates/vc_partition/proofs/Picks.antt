@@ -61,7 +61,8 @@ least-insert (suc n) set m less = ⊎_elim
     let same : least n (with_member set m) ≡ least n set = least-same n (with_member set m) set
     (λ k below. let t : (k == m) ≡ false = grind (arith, nat_tests) in ap (λ w. set k || w) t ∙ or-false (set k)) in
     let is : with_member set m n ≡ true = let t : (n == m) ≡ true = grind (arith, nat_tests) in ap (λ w. set n || w) t ∙ or-true (set n) in
-    ap (λ o. option_or o (number_if (with_member set m n) n)) same ∙ ap (λ b. option_or (least n set) (number_if b n)) is
+    ap (λ o. option_or o (number_if (with_member set m n) n)) same
+    ∙ ap (λ b. option_or (least n set) (number_if b n)) is
     ∙ step-last (least n set) (set n) n m e (λ k at. (least-member n set k at).0))
     (cases_lt m n)
 
@@ -144,7 +145,8 @@ unfolding pick
 pick-insert n set pointer m less =
     let all = least-insert n set m less in
     let late : (k : ℕ) → least n (later pointer set) ≡ Some k → pointer ≤ k = late-are n set pointer in
-    let early : (k : ℕ) → least n (later pointer set) ≡ None → least n set ≡ Some k → k < pointer = early-are n set pointer in
+    let early : (k : ℕ) → least n (later pointer set) ≡ None → least n set ≡ Some k → k < pointer =
+    early-are n set pointer in
     ⊎_elim
     (λ (before : m < pointer).
     let same : least n (later pointer (with_member set m)) ≡ least n (later pointer set) = least-same n (later pointer (with_member set m)) (later pointer set)
@@ -156,7 +158,8 @@ pick-insert n set pointer m less =
     least-same n (later pointer (with_member set m)) (with_member (later pointer set) m)
     (λ k below. later-in (nat_le pointer k) (set k) (k == m) (λ t. grind (arith, nat_tests)))
     ∙ least-insert n (later pointer set) m less in
-    ap (λ o. option_or o (least n (with_member set m))) same ∙ ap (λ o. option_or (lesser (least n (later pointer set)) m) o) all
+    ap (λ o. option_or o (least n (with_member set m))) same
+    ∙ ap (λ o. option_or (lesser (least n (later pointer set)) m) o) all
     ∙ insert-late pointer m (least n (later pointer set)) (least n set) after late early)
     (cases_lt m pointer)
 
