@@ -38,14 +38,21 @@ nets-here all before rest (n ∷ ns) e k =
 reads-nets : (ls : List Leaf) (all before : List Line) (is : List Item) → all ≡ before ++ map item is
     → Passes name_unknown (sites_behind ls all before (map item is)) → AllByRecursion (ReadsNets all) is
 reads-nets ls all before [] e p = tt
-reads-nets ls all before (wire h n ∷ is) e p = (tt, reads-nets ls all (before ++ item (wire h n) ∷ []) is (more all before (wire h n) is e) p.1)
-reads-nets ls all before (reg h n ∷ is) e p = (tt, reads-nets ls all (before ++ item (reg h n) ∷ []) is (more all before (reg h n) is e) p.1)
-reads-nets ls all before (mem h n last ∷ is) e p = (tt, reads-nets ls all (before ++ item (mem h n last) ∷ []) is (more all before (mem h n last) is e) p.1)
-reads-nets ls all before (clocked n k v ∷ is) e p = (tt, reads-nets ls all (before ++ item (clocked n k v) ∷ []) is (more all before (clocked n k v) is e) p.1)
-reads-nets ls all before (store c n i v ∷ is) e p = (tt, reads-nets ls all (before ++ item (store c n i v) ∷ []) is (more all before (store c n i v) is e) p.1)
+reads-nets ls all before (wire h n ∷ is) e p =
+    (tt, reads-nets ls all (before ++ item (wire h n) ∷ []) is (more all before (wire h n) is e) p.1)
+reads-nets ls all before (reg h n ∷ is) e p =
+    (tt, reads-nets ls all (before ++ item (reg h n) ∷ []) is (more all before (reg h n) is e) p.1)
+reads-nets ls all before (mem h n last ∷ is) e p =
+    (tt, reads-nets ls all (before ++ item (mem h n last) ∷ []) is (more all before (mem h n last) is e) p.1)
+reads-nets ls all before (clocked n k v ∷ is) e p =
+    (tt, reads-nets ls all (before ++ item (clocked n k v) ∷ []) is (more all before (clocked n k v) is e) p.1)
+reads-nets ls all before (store c n i v ∷ is) e p =
+    (tt, reads-nets ls all (before ++ item (store c n i v) ∷ []) is (more all before (store c n i v) is e) p.1)
 reads-nets ls all before (assign n v ∷ is) e p =
-    let parts = and_parts (is_kind is_driven before n) (knows before v) (known-here ls all before (item (assign n v)) (map item is) p) in
-    let reads = and_parts (list_all (is_kind is_net before) (nets_of v)) (list_all (λ (u : Use). is_kind is_memory before u.memory) (uses_of v)) parts.1 in
+    let parts =
+    and_parts (is_kind is_driven before n) (knows before v) (known-here ls all before (item (assign n v)) (map item is) p) in
+    let reads =
+    and_parts (list_all (is_kind is_net before) (nets_of v)) (list_all (λ (u : Use). is_kind is_memory before u.memory) (uses_of v)) parts.1 in
     (nets-here all before (map item (assign n v ∷ is)) (nets_of v) e reads.0, reads-nets ls all (before ++ item (assign n v) ∷ []) is (more all before (assign n v) is e) p.1)
 
 -- ---- through a leaf
@@ -124,7 +131,8 @@ module _ (P : Name → Type 0) where
       go given free true some =
           absurd (both_ways (list_any (bytes_eq n) D) free
           (stays (depending ns (item (assign n v))) (map item is) n (subst (λ b. list_any (bytes_eq n) (if b then n ∷ ns else ns) ≡ true) (sym some) (or_left (bytes_eq n n) (list_any (bytes_eq n) ns) (itself n)))))
-      go given free false none = a.0 (pure-reads D ns (nets_of v) given (outside-all ns (assign n v ∷ is) (nets_of v) o.0) none)
+      go given free false none =
+          a.0 (pure-reads D ns (nets_of v) given (outside-all ns (assign n v ∷ is) (nets_of v) o.0) none)
 
 -- ---- one leaf
 
@@ -140,8 +148,10 @@ module _ (l : Leaf) (g : GoodLeaf l) (reads : AllByRecursion (ReadsNets (leaf_li
 
       go : (c : Kind) → what.0.kind ≡ c → Q m
       go Input e = ins m (ap (kind_passes is_input) what.1 ∙ ap is_input e)
-      go Output e = absurd (both_ways (is_assigned l.items m) f (g.driven m (ap (kind_passes is_driven) what.1 ∙ ap is_driven e)))
-      go Inner e = absurd (both_ways (is_assigned l.items m) f (g.driven m (ap (kind_passes is_driven) what.1 ∙ ap is_driven e)))
+      go Output e =
+          absurd (both_ways (is_assigned l.items m) f (g.driven m (ap (kind_passes is_driven) what.1 ∙ ap is_driven e)))
+      go Inner e =
+          absurd (both_ways (is_assigned l.items m) f (g.driven m (ap (kind_passes is_driven) what.1 ∙ ap is_driven e)))
       go Register e = regs m (ap (kind_passes is_register) what.1 ∙ ap is_register e)
       go Memory e = absurd (false≢true (sym (ap is_net e) ∙ what.2))
       go Child e = absurd (false≢true (sym (ap is_net e) ∙ what.2))
@@ -242,7 +252,10 @@ module _ (d : Design) (sound : IsSound d) (T : Name → Type 0) (I : Name → Na
       p = leaf-input l n k
 
       go : (o : Option Join) → find (λ (j : Join). bytes_eq n j.port) js ≡ o → I i n
-      go None e = let one = port-join l js f.0.each n p.0 p.1 in let none = found-none (λ (j : Join). bytes_eq n j.port) js e in absurd (omega arith)
+      go None e =
+          let one = port-join l js f.0.each n p.0 p.1 in
+          let none = found-none (λ (j : Join). bytes_eq n j.port) js e in
+          absurd (omega arith)
       go (Some j) e =
           let has = found-has (λ (j : Join). bytes_eq n j.port) (λ (j : Join). GoodJoin (top_lines d.top) l j × (I i j.port ↔ T j.net)) js j e
           (all-both (GoodJoin (top_lines d.top) l) (λ (j : Join). I i j.port ↔ T j.net) (λ (j : Join). bytes_eq n j.port ≡ true → GoodJoin (top_lines d.top) l j × (I i j.port ↔ T j.net)) (λ j a b t. (a, b)) js f.0.joins f.4) in

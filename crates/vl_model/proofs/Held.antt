@@ -39,7 +39,8 @@ lookup-new (y ∷ before) rest x d is none = go (declared y) (lookup-new before 
 declared-here : (all before : List Line) (x : Item) (is : List Item) (d : Declared) → all ≡ before ++ map item (x ∷ is)
     → declared (item x) ≡ Some d → is_again before (declared (item x)) ≡ false → lookup all d.name ≡ Some d
 declared-here all before x is d e what again =
-    ap (λ l. lookup l d.name) e ∙ lookup-new before (map item is) (item x) d what (none-of (lookup before d.name) (subst (λ o. is_again before o ≡ false) what again))
+    ap (λ l. lookup l d.name) e
+    ∙ lookup-new before (map item is) (item x) d what (none-of (lookup before d.name) (subst (λ o. is_again before o ≡ false) what again))
 
 -- a declared name is as wide as it says, and its numbers fit
 abbrev Sized : Widths → Values → Item → Type 0
@@ -54,17 +55,23 @@ sized : (v : Values) (all before : List Line) (is : List Item) (ls : List Leaf) 
 unfolding name_twice
 sized v all before [] ls e once small = tt
 sized v all before (wire h n ∷ is) ls e once small =
-    let w : (widths all).net n ≡ h + 1 = ap net_bits (declared-here all before (wire h n) is (record { name = n; kind = Inner; high = h; last = 0 }) e refl once.0) in
+    let w : (widths all).net n ≡ h + 1 =
+    ap net_bits (declared-here all before (wire h n) is (record { name = n; kind = Inner; high = h; last = 0 }) e refl once.0) in
     ((w, subst (λ k. v.net n < 2 ^ k) w (small.net n)), sized v all (before ++ item (wire h n) ∷ []) is ls (more all before (wire h n) is e) once.1 small)
 sized v all before (reg h n ∷ is) ls e once small =
-    let w : (widths all).net n ≡ h + 1 = ap net_bits (declared-here all before (reg h n) is (record { name = n; kind = Register; high = h; last = 0 }) e refl once.0) in
+    let w : (widths all).net n ≡ h + 1 =
+    ap net_bits (declared-here all before (reg h n) is (record { name = n; kind = Register; high = h; last = 0 }) e refl once.0) in
     ((w, subst (λ k. v.net n < 2 ^ k) w (small.net n)), sized v all (before ++ item (reg h n) ∷ []) is ls (more all before (reg h n) is e) once.1 small)
 sized v all before (mem h n last ∷ is) ls e once small =
-    let w : (widths all).word n ≡ h + 1 = ap word_bits (declared-here all before (mem h n last) is (record { name = n; kind = Memory; high = h; last = last }) e refl once.0) in
+    let w : (widths all).word n ≡ h + 1 =
+    ap word_bits (declared-here all before (mem h n last) is (record { name = n; kind = Memory; high = h; last = last }) e refl once.0) in
     ((w, λ i. subst (λ k. v.word n i < 2 ^ k) w (small.word n i)), sized v all (before ++ item (mem h n last) ∷ []) is ls (more all before (mem h n last) is e) once.1 small)
-sized v all before (assign n x ∷ is) ls e once small = (tt, sized v all (before ++ item (assign n x) ∷ []) is ls (more all before (assign n x) is e) once.1 small)
-sized v all before (clocked n k x ∷ is) ls e once small = (tt, sized v all (before ++ item (clocked n k x) ∷ []) is ls (more all before (clocked n k x) is e) once.1 small)
-sized v all before (store c n i x ∷ is) ls e once small = (tt, sized v all (before ++ item (store c n i x) ∷ []) is ls (more all before (store c n i x) is e) once.1 small)
+sized v all before (assign n x ∷ is) ls e once small =
+    (tt, sized v all (before ++ item (assign n x) ∷ []) is ls (more all before (assign n x) is e) once.1 small)
+sized v all before (clocked n k x ∷ is) ls e once small =
+    (tt, sized v all (before ++ item (clocked n k x) ∷ []) is ls (more all before (clocked n k x) is e) once.1 small)
+sized v all before (store c n i x ∷ is) ls e once small =
+    (tt, sized v all (before ++ item (store c n i x) ∷ []) is ls (more all before (store c n i x) is e) once.1 small)
 
 zip-held : (w : Widths) (v : Values) (is : List Item) → AllByRecursion (Sized w v) is → AllByRecursion (Assigned w v) is
     → AllHold w v is
@@ -82,4 +89,5 @@ parts-hold d sound n l named v right =
     zip-held (leaf_widths l) v l.items (sized v (leaf_lines l) (front l) l.items s.0 refl (passes-behind name_twice s.0 (leaf_lines l) [] (front l) (map item l.items) s.1.once) right.small) right.assigned
 
 pub parts-alone : PartsAlone
-parts-alone w v before items after h = all-front (Holds w v) items after (all-back (Holds w v) before (items ++ after) h)
+parts-alone w v before items after h =
+    all-front (Holds w v) items after (all-back (Holds w v) before (items ++ after) h)

@@ -87,9 +87,11 @@ good-leaf l plain s = record {
     assigned n k true e = e
     assigned n k false e =
         let what = kind-of is_driven all n k in
-        let one : drivers ls all n ≡ 1 = driven-once ls all n what.0 m.driver what.1 (driven-wants what.0.kind what.2) in
+        let one : drivers ls all n ≡ 1 =
+        driven-once ls all n what.0 m.driver what.1 (driven-wants what.0.kind what.2) in
         let none : drivers ls (map item l.items) n ≡ 0 = none-drives ls all (front l) l.items n refl k known e in
-        let parts : drivers ls all n ≡ drivers ls (front l) n + drivers ls (map item l.items) n = drivers-append ls (front l) (map item l.items) n in
+        let parts : drivers ls all n ≡ drivers ls (front l) n + drivers ls (map item l.items) n =
+        drivers-append ls (front l) (map item l.items) n in
         let first : drivers ls (front l) n ≡ 0 = front-drives-none ls l n in
         absurd (omega arith)
 
@@ -219,7 +221,8 @@ outputs-same l g v u words agree n p e out =
 
 pub settled-right : (l : Leaf) → GoodLeaf l → (v : Values) → AreSmall (leaf_widths l) v
     → IsRightIn l (settle (leaf_widths l) v l.items)
-settled-right l g v small = record { small = settle-small (leaf_widths l) v l.items g.tight small; assigned = settle-holds (leaf_widths l) v l.items g.order }
+settled-right l g v small =
+    record { small = settle-small (leaf_widths l) v l.items g.tight small; assigned = settle-holds (leaf_widths l) v l.items g.order }
 
 -- what no wire or output port is stays
 pub settled-keeps : (l : Leaf) → GoodLeaf l → (v : Values) (m : Name) → is_kind is_driven (leaf_lines l) m ≡ false
@@ -238,13 +241,17 @@ pub right-settled : (l : Leaf) → GoodLeaf l → (v u : Values) → AreSmall (l
 right-settled l g v u small right words registers inputs m = settle-only (leaf_widths l) v u l.items g.order right.assigned words (λ k f. go k f (lookup (leaf_lines l) k) refl) m
   where
     zero-both : (k : Name) → net_bits (lookup (leaf_lines l) k) ≡ 0 → u.net k ≡ v.net k
-    zero-both k e = below-one (u.net k) (subst (λ b. u.net k < 2 ^ b) e (right.small.net k)) ∙ sym (below-one (v.net k) (subst (λ b. v.net k < 2 ^ b) e (small.net k)))
+    zero-both k e =
+        below-one (u.net k) (subst (λ b. u.net k < 2 ^ b) e (right.small.net k))
+        ∙ sym (below-one (v.net k) (subst (λ b. v.net k < 2 ^ b) e (small.net k)))
 
     kinds : (k : Name) (f : is_assigned l.items k ≡ false) (x : Declared) → lookup (leaf_lines l) k ≡ Some x
         → (c : Kind) → x.kind ≡ c → u.net k ≡ v.net k
     kinds k f x is Input e = inputs k (ap (kind_passes is_input) is ∙ ap is_input e)
-    kinds k f x is Output e = absurd (both_ways (is_assigned l.items k) f (g.driven k (ap (kind_passes is_driven) is ∙ ap is_driven e)))
-    kinds k f x is Inner e = absurd (both_ways (is_assigned l.items k) f (g.driven k (ap (kind_passes is_driven) is ∙ ap is_driven e)))
+    kinds k f x is Output e =
+        absurd (both_ways (is_assigned l.items k) f (g.driven k (ap (kind_passes is_driven) is ∙ ap is_driven e)))
+    kinds k f x is Inner e =
+        absurd (both_ways (is_assigned l.items k) f (g.driven k (ap (kind_passes is_driven) is ∙ ap is_driven e)))
     kinds k f x is Register e = registers k (ap (kind_passes is_register) is ∙ ap is_register e)
     kinds k f x is Memory e = zero-both k (ap net_bits is ∙ ap (λ c. if is_net c then x.high + 1 else 0) e)
     kinds k f x is Child e = zero-both k (ap net_bits is ∙ ap (λ c. if is_net c then x.high + 1 else 0) e)

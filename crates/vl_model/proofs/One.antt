@@ -48,7 +48,8 @@ pub each-pull : {X : Type 0} (ls : List Leaf) (P : X → Leaf → Name → List 
     → Known ls is → ((x : X) → Each ls (P x) is) → Each ls (λ l n js. (x : X) → P x l n js) is
 each-pull ls P [] k f = tt
 each-pull ls P (Wire h m ∷ is) k f = (tt, each-pull ls P is k.1 (λ x. (f x).1))
-each-pull ls P (Instance l n js ∷ is) k f = (of-pull (leaf_named ls l) (λ x leaf. P x leaf n js) k.0 (λ x. (f x).0), each-pull ls P is k.1 (λ x. (f x).1))
+each-pull ls P (Instance l n js ∷ is) k f =
+    (of-pull (leaf_named ls l) (λ x leaf. P x leaf n js) k.0 (λ x. (f x).0), each-pull ls P is k.1 (λ x. (f x).1))
 
 -- ---- on ports
 
@@ -73,7 +74,8 @@ pub port-join : (l : Leaf) (js : List Join)
     → count_by (λ (j : Join). bytes_eq n j.port) js ≡ 1
 port-join l js each n p e =
     let both = named-test (λ (p : Port). count_by (λ (j : Join). bytes_eq p.name j.port) js == 1) l.ports n p each e in
-    ap (λ m. count_by (λ (j : Join). bytes_eq m j.port) js) both.1 ∙ eqb-true (count_by (λ (j : Join). bytes_eq p.name j.port) js) 1 both.0
+    ap (λ m. count_by (λ (j : Join). bytes_eq m j.port) js) both.1
+    ∙ eqb-true (count_by (λ (j : Join). bytes_eq p.name j.port) js) 1 both.0
 
 not-register : (l : Leaf) (n : Name) → is_kind is_register (leaf_lines l) n ≡ true
     → is_input_port (port_named l.ports n) ≡ false
@@ -85,7 +87,8 @@ not-register l n k = go (port_named l.ports n) refl
 
     go : (o : Option Port) → port_named l.ports n ≡ o → is_input_port (port_named l.ports n) ≡ false
     go None is = ap is_input_port is
-    go (Some p) is = absurd (both_ways (is_kind is_register (leaf_lines l) n) (ap (kind_passes is_register) (leaf-port l n p is) ∙ way p.output) k)
+    go (Some p) is =
+        absurd (both_ways (is_kind is_register (leaf_lines l) n) (ap (kind_passes is_register) (leaf-port l n p is) ∙ way p.output) k)
 
 register-free : (l : Leaf) (n : Name) → is_kind is_register (leaf_lines l) n ≡ true
     → is_kind is_driven (leaf_lines l) n ≡ false
@@ -122,13 +125,16 @@ fed-small all l n js top v g low small = record { net = λ m. go m (port_named l
         → find (λ (k : Join). bytes_eq m k.port) js ≡ o → net_of_join o top (v.net m) < 2 ^ (leaf_widths l).net m
     joined m p named None at = small.net m
     joined m p named (Some j) at =
-        let has = found-has (λ (k : Join). bytes_eq m k.port) (GoodJoin all l) js j at (all-map (GoodJoin all l) (λ k. bytes_eq m k.port ≡ true → GoodJoin all l k) (λ k h e. h) js g.joins) in
-        let same : port_named l.ports m ≡ Some has.1.port = ap (port_named l.ports) (one-name m j.port has.0) ∙ has.1.named in
+        let has =
+        found-has (λ (k : Join). bytes_eq m k.port) (GoodJoin all l) js j at (all-map (GoodJoin all l) (λ k. bytes_eq m k.port ≡ true → GoodJoin all l k) (λ k h e. h) js g.joins) in
+        let same : port_named l.ports m ≡ Some has.1.port =
+        ap (port_named l.ports) (one-name m j.port has.0) ∙ has.1.named in
         subst (λ w. top j.net < 2 ^ w) (sym has.1.wide ∙ sym (port-bits l m has.1.port same)) (low j.net)
 
     ways : (m : Name) (p : Port) → port_named l.ports m ≡ Some p → (b : Bool) → p.output ≡ b
         → (fed l js top v).net m < 2 ^ (leaf_widths l).net m
-    ways m p named true out = subst (λ x. x < 2 ^ (leaf_widths l).net m) (sym (fed-other l js top v m (ap is_input_port named ∙ ap (λ b. if b then false else true) out))) (small.net m)
+    ways m p named true out =
+        subst (λ x. x < 2 ^ (leaf_widths l).net m) (sym (fed-other l js top v m (ap is_input_port named ∙ ap (λ b. if b then false else true) out))) (small.net m)
     ways m p named false out =
         subst (λ x. x < 2 ^ (leaf_widths l).net m)
         (sym (ap (λ o. if is_input_port o then net_of_join (find (λ (k : Join). bytes_eq m k.port) js) top (v.net m) else v.net m) named
@@ -136,14 +142,16 @@ fed-small all l n js top v g low small = record { net = λ m. go m (port_named l
         (joined m p named (find (λ (k : Join). bytes_eq m k.port) js) refl)
 
     go : (m : Name) (o : Option Port) → port_named l.ports m ≡ o → (fed l js top v).net m < 2 ^ (leaf_widths l).net m
-    go m None named = subst (λ x. x < 2 ^ (leaf_widths l).net m) (sym (fed-other l js top v m (ap is_input_port named))) (small.net m)
+    go m None named =
+        subst (λ x. x < 2 ^ (leaf_widths l).net m) (sym (fed-other l js top v m (ap is_input_port named))) (small.net m)
     go m (Some p) named = ways m p named p.output refl
 
 -- the outputs of the second turn are those of the first
 turns-same : (l : Leaf) (js : List Join) (top : Name → ℕ) (v : Values) → GoodLeaf l → (n : Name) (p : Port)
     → port_named l.ports n ≡ Some p → p.output ≡ true
     → (settled_in l js top v).net n ≡ (turn l v).net n
-turns-same l js top v g n p named out = outputs-same l g (fed l js top v) v (λ m i. refl) (λ m e. fed-other l js top v m e) n p named out
+turns-same l js top v g n p named out =
+    outputs-same l g (fed l js top v) v (λ m i. refl) (λ m e. fed-other l js top v m e) n p named out
 
 -- what a join that drives says
 pub drives-parts : (all : List Line) (l : Leaf) (n : Name) (j : Join) → GoodJoin all l j → join_drives l n j ≡ true
@@ -207,13 +215,15 @@ module _ (d : Design) (sound : IsSound d) where
   at-name top inside = found-here (λ l n js. instance_settled l js top (inside n)) inside
 
   pub plain-leaf : (n : Name) (l : Leaf) → leaf_named d.leaves n ≡ Some l → list_all plain_item l.items ≡ true
-  plain-leaf n l e = named-plain d.leaves n l (and_parts (list_all plain_leaf d.leaves) (list_all plain_port d.top.ports) (and_parts (list_all plain_leaf d.leaves && list_all plain_port d.top.ports) (list_all plain_top_item d.top.items) (is_plain_design d sound.plain)).0).0 e
+  plain-leaf n l e =
+      named-plain d.leaves n l (and_parts (list_all plain_leaf d.leaves) (list_all plain_port d.top.ports) (and_parts (list_all plain_leaf d.leaves && list_all plain_port d.top.ports) (list_all plain_top_item d.top.items) (is_plain_design d sound.plain)).0).0 e
 
   -- a net of the top that wants a driver has one, among the instances
   pub one-driver : (n : Name) (x : Declared) → lookup (top_lines d.top) n ≡ Some x → wants_driver x.kind ≡ true
       → drivers d.leaves (map joint d.top.items) n ≡ 1
   one-driver n x e wants =
-      let one : drivers d.leaves (top_lines d.top) n ≡ 1 = driven-once d.leaves (top_lines d.top) n x (top-sound d sound.rules).driver e wants in
+      let one : drivers d.leaves (top_lines d.top) n ≡ 1 =
+      driven-once d.leaves (top_lines d.top) n x (top-sound d sound.rules).driver e wants in
       let parts : drivers d.leaves (top_lines d.top) n ≡ drivers d.leaves (heading (codes "noc") ∷ map port d.top.ports) n + drivers d.leaves (map joint d.top.items) n =
       drivers-append d.leaves (heading (codes "noc") ∷ map port d.top.ports) (map joint d.top.items) n in
       let none : drivers d.leaves (map port d.top.ports) n ≡ 0 = ports-none d.leaves d.top.ports n in
@@ -233,12 +243,14 @@ module _ (d : Design) (sound : IsSound d) (s : Nets) (small : AreSmallNets d s) 
       (λ l i js g v. all-map (GoodJoin (top_lines d.top) l) (λ (j : Join). join_drives l n j ≡ true → (turn l (s.inside i)).net j.port < 2 ^ (widths (top_lines d.top)).net n)
       (λ j h e.
       let parts = drives-parts (top_lines d.top) l n j h e in
-      let w : (leaf_widths l).net j.port ≡ (widths (top_lines d.top)).net n = port-bits l j.port parts.1.0 parts.1.1 ∙ parts.1.3 ∙ ap (widths (top_lines d.top)).net (sym parts.0) in
+      let w : (leaf_widths l).net j.port ≡ (widths (top_lines d.top)).net n =
+      port-bits l j.port parts.1.0 parts.1.1 ∙ parts.1.3 ∙ ap (widths (top_lines d.top)).net (sym parts.0) in
       subst (λ k. (turn l (s.inside i)).net j.port < 2 ^ k) w ((settled-right l g.leaf (s.inside i) v).small.net j.port)) js g.joins)
       d.top.items (good d sound) small.inside
 
   top-small : (n : Name) → top_value d s n < 2 ^ (widths (top_lines d.top)).net n
-  top-small n = net-has d.leaves s.inside (λ x. x < 2 ^ (widths (top_lines d.top)).net n) n (s.top n) d.top.items (λ e. small.top n) (out-small n)
+  top-small n =
+      net-has d.leaves s.inside (λ x. x < 2 ^ (widths (top_lines d.top)).net n) n (s.top n) d.top.items (λ e. small.top n) (out-small n)
 
   -- a top's input port keeps its number
   top-input : (n : Name) → is_kind is_input (top_lines d.top) n ≡ true → top_value d s n ≡ s.top n
@@ -261,7 +273,9 @@ module _ (d : Design) (sound : IsSound d) (s : Nets) (small : AreSmallNets d s) 
 
       input-driven : (n : Name) → is_kind is_input (top_lines d.top) n ≡ true
           → is_kind is_driven (top_lines d.top) n ≡ true → ⊥
-      input-driven n a b = let what = kind-of is_input (top_lines d.top) n a in kinds what.0.kind what.2 (sym (ap (kind_passes is_driven) what.1) ∙ b)
+      input-driven n a b =
+          let what = kind-of is_input (top_lines d.top) n a in
+          kinds what.0.kind what.2 (sym (ap (kind_passes is_driven) what.1) ∙ b)
 
   inside-right : Each d.leaves (λ l i js. IsRightIn l (inside_settled d.leaves d.top.items (top_value d s) s.inside i)) d.top.items
   inside-right =
@@ -289,7 +303,8 @@ module _ (d : Design) (sound : IsSound d) (s : Nets) (small : AreSmallNets d s) 
       → (b : Bool) → h.port.output ≡ b → (settled_in l js (top_value d s) (s.inside i)).net j.port ≡ top_value d s j.net
   join-holds l i js g j h drives finds true out =
       let what = kind-of is_driven (top_lines d.top) j.net (h.driven out) in
-      let one : drivers d.leaves (map joint d.top.items) j.net ≡ 1 = one-driver d sound j.net what.0 what.1 (driven-wants what.0.kind what.2) in
+      let one : drivers d.leaves (map joint d.top.items) j.net ≡ 1 =
+      one-driver d sound j.net what.0 what.1 (driven-wants what.0.kind what.2) in
       turns-same l js (top_value d s) (s.inside i) g.leaf j.port h.port h.named out
       ∙ sym (drives (j.net, one) (and_from (bytes_eq j.net j.net) (is_output_port (port_named l.ports j.port)) (itself j.net) (ap is_output_port h.named ∙ out)))
   join-holds l i js g j h drives finds false out =
@@ -300,7 +315,8 @@ module _ (d : Design) (sound : IsSound d) (s : Nets) (small : AreSmallNets d s) 
       → ((x : (n : Name) × (drivers d.leaves (map joint d.top.items) n ≡ 1)) → AllByRecursion (λ (j : Join). join_drives l x.0 j ≡ true → top_value d s x.0 ≡ (turn l (s.inside i)).net j.port) js)
       → JoinedHere l i js
   joins-hold l i js g pull =
-      let all-drives = all-pull {X = (n : Name) × (drivers d.leaves (map joint d.top.items) n ≡ 1)} (λ x (j : Join). join_drives l x.0 j ≡ true → top_value d s x.0 ≡ (turn l (s.inside i)).net j.port) js pull in
+      let all-drives =
+      all-pull {X = (n : Name) × (drivers d.leaves (map joint d.top.items) n ≡ 1)} (λ x (j : Join). join_drives l x.0 j ≡ true → top_value d s x.0 ≡ (turn l (s.inside i)).net j.port) js pull in
       let all-finds = all-pull {X = (n : Name) × (count_by (λ (k : Join). bytes_eq n k.port) js ≡ 1)} (λ x (j : Join). bytes_eq x.0 j.port ≡ true → find (λ (k : Join). bytes_eq x.0 k.port) js ≡ Some j) js
       (λ x. one-found (λ (k : Join). bytes_eq x.0 k.port) js x.1) in
       all-both (GoodJoin (top_lines d.top) l)
@@ -360,11 +376,14 @@ module _ (d : Design) (sound : IsSound d) (s : Nets) (small : AreSmallNets d s) 
             let none = found-zero (λ (j : Join). bytes_eq m j.port) js at in
             absurd (omega arith)
         go (Some j) at =
-            let has = found-has (λ (j : Join). bytes_eq m j.port) (Joined (u.inside i) u.top) js j at (all-map (Joined (u.inside i) u.top) (λ k. bytes_eq m k.port ≡ true → Joined (u.inside i) u.top k) (λ k h e. h) js joined) in
-            ap (u.inside i).net (one-name m j.port has.0) ∙ has.1 ∙ sym (fed-here l js u.top (s.inside i) m p.0 j p.1 p.2 at)
+            let has =
+            found-has (λ (j : Join). bytes_eq m j.port) (Joined (u.inside i) u.top) js j at (all-map (Joined (u.inside i) u.top) (λ k. bytes_eq m k.port ≡ true → Joined (u.inside i) u.top k) (λ k h e. h) js joined) in
+            ap (u.inside i).net (one-name m j.port has.0) ∙ has.1
+            ∙ sym (fed-here l js u.top (s.inside i) m p.0 j p.1 p.2 at)
 
     abbrev Fact : Leaf → Name → List Join → Type 0
-    Fact l i js = GoodInstance (top_lines d.top) l i js × AreSmall (leaf_widths l) (s.inside i) × IsRightIn l (u.inside i) × SameKept l (s.inside i) (u.inside i) × AllByRecursion (Joined (u.inside i) u.top) js
+    Fact l i js =
+        GoodInstance (top_lines d.top) l i js × AreSmall (leaf_widths l) (s.inside i) × IsRightIn l (u.inside i) × SameKept l (s.inside i) (u.inside i) × AllByRecursion (Joined (u.inside i) u.top) js
 
     facts : Each d.leaves Fact d.top.items
     facts =
@@ -392,7 +411,9 @@ module _ (d : Design) (sound : IsSound d) (s : Nets) (small : AreSmallNets d s) 
         d.top.items facts)
 
     zero-both : (n : Name) → (widths (top_lines d.top)).net n ≡ 0 → u.top n ≡ top_value d s n
-    zero-both n e = below-one (u.top n) (subst (λ w. u.top n < 2 ^ w) e (right.top n)) ∙ sym (below-one (top_value d s n) (subst (λ w. top_value d s n < 2 ^ w) e (top-small n)))
+    zero-both n e =
+        below-one (u.top n) (subst (λ w. u.top n < 2 ^ w) e (right.top n))
+        ∙ sym (below-one (top_value d s n) (subst (λ w. top_value d s n < 2 ^ w) e (top-small n)))
 
     kinds : (n : Name) (x : Declared) → lookup (top_lines d.top) n ≡ Some x → (c : Kind) → x.kind ≡ c
         → u.top n ≡ top_value d s n
@@ -424,4 +445,5 @@ module _ (d : Design) (sound : IsSound d) (s : Nets) (small : AreSmallNets d s) 
     }
 
 pub one-valuation : OneValuation
-one-valuation d sound s small = (is-right d sound s small, same-state d sound s small, λ u right state. same-nets d sound s small u right state)
+one-valuation d sound s small =
+    (is-right d sound s small, same-state d sound s small, λ u right state. same-nets d sound s small u right state)

@@ -57,10 +57,12 @@ unfolding first_fault
 pass-all d e = no-fault rules (sites d) e
 
 pub pass-front : (xs ys : List Site) → PassAll (xs ++ ys) → PassAll xs
-pass-front xs ys a = all-map (λ (r : Rule). Passes r.1 (xs ++ ys)) (λ (r : Rule). Passes r.1 xs) (λ r p. all-front (λ p. r.1 p ≡ false) xs ys p) rules a
+pass-front xs ys a =
+    all-map (λ (r : Rule). Passes r.1 (xs ++ ys)) (λ (r : Rule). Passes r.1 xs) (λ r p. all-front (λ p. r.1 p ≡ false) xs ys p) rules a
 
 pub pass-back : (xs ys : List Site) → PassAll (xs ++ ys) → PassAll ys
-pass-back xs ys a = all-map (λ (r : Rule). Passes r.1 (xs ++ ys)) (λ (r : Rule). Passes r.1 ys) (λ r p. all-back (λ p. r.1 p ≡ false) xs ys p) rules a
+pass-back xs ys a =
+    all-map (λ (r : Rule). Passes r.1 (xs ++ ys)) (λ (r : Rule). Passes r.1 ys) (λ r p. all-back (λ p. r.1 p ≡ false) xs ys p) rules a
 
 -- the lines of one module keep the rules, where these leaves stand before it
 pub record SoundModule (leaves : List Leaf) (lines : List Line) : Type 0 where
@@ -102,10 +104,12 @@ named-sound before (x ∷ ls) n l e a = go (λ f. named-sound (before ++ x ∷ [
 -- each leaf of a sound design, and its top
 pub leaf-sound : (d : Design) → first_fault d ≡ None → (n : Name) (l : Leaf) → leaf_named d.leaves n ≡ Some l
     → SoundLeaf l
-leaf-sound d e n l is = named-sound [] d.leaves n l is (pass-front (leaf_sites [] d.leaves) (module_sites d.leaves (top_lines d.top)) (pass-all d e))
+leaf-sound d e n l is =
+    named-sound [] d.leaves n l is (pass-front (leaf_sites [] d.leaves) (module_sites d.leaves (top_lines d.top)) (pass-all d e))
 
 pub top-sound : (d : Design) → first_fault d ≡ None → SoundModule d.leaves (top_lines d.top)
-top-sound d e = sound-module d.leaves (top_lines d.top) (pass-back (leaf_sites [] d.leaves) (module_sites d.leaves (top_lines d.top)) (pass-all d e))
+top-sound d e =
+    sound-module d.leaves (top_lines d.top) (pass-back (leaf_sites [] d.leaves) (module_sites d.leaves (top_lines d.top)) (pass-all d e))
 
 -- the sites behind some lines
 pub passes-behind : (t : Site → Bool) (ls : List Leaf) (all before a b : List Line)

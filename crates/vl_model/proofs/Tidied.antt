@@ -21,11 +21,14 @@ map-append f (x ∷ xs) ys = ap (λ zs. f x ∷ zs) (map-append f xs ys)
 plain-more : (xs ys : List Item) → list_all plain_item xs ≡ true → list_all plain_item ys ≡ true
     → list_all plain_item (xs ++ ys) ≡ true
 plain-more [] ys a b = b
-plain-more (x ∷ xs) ys a b = let ps = and_parts (plain_item x) (list_all plain_item xs) a in and_from (plain_item x) (list_all plain_item (xs ++ ys)) ps.0 (plain-more xs ys ps.1 b)
+plain-more (x ∷ xs) ys a b =
+    let ps = and_parts (plain_item x) (list_all plain_item xs) a in
+    and_from (plain_item x) (list_all plain_item (xs ++ ys)) ps.0 (plain-more xs ys ps.1 b)
 
 -- the lines of the leaf with more items
 lines-more : (l : Leaf) (is : List Item) → leaf_lines (with_items l is) ≡ leaf_lines l ++ map item is
-lines-more l is = ap (λ z. heading l.name ∷ z) (ap (λ z. map port l.ports ++ z) (map-append item l.items is) ∙ sym (append_assoc (map port l.ports) (map item l.items) (map item is)))
+lines-more l is =
+    ap (λ z. heading l.name ∷ z) (ap (λ z. map port l.ports ++ z) (map-append item l.items is) ∙ sym (append_assoc (map port l.ports) (map item l.items) (map item is)))
 
 -- the sites of two rows of lines
 passes-join : (t : Site → Bool) (ls : List Leaf) (all before a b : List Line) → Passes t (sites_behind ls all before a)
@@ -39,7 +42,8 @@ passes-any : (t : Site → Bool) (ls : List Leaf) (all more : List Line)
     → ((before : List Line) (x : Line) → t (record { leaves = ls; lines = more; before = before; line = x }) ≡ t (record { leaves = ls; lines = all; before = before; line = x }))
     → (before xs : List Line) → Passes t (sites_behind ls all before xs) → Passes t (sites_behind ls more before xs)
 passes-any t ls all more same before [] p = tt
-passes-any t ls all more same before (x ∷ xs) p = (same before x ∙ p.0, passes-any t ls all more same (before ++ x ∷ []) xs p.1)
+passes-any t ls all more same before (x ∷ xs) p =
+    (same before x ∙ p.0, passes-any t ls all more same (before ++ x ∷ []) xs p.1)
 
 module _ (l : Leaf) (is : List Item) where
   more : List Line

@@ -36,7 +36,8 @@ all-zip P Q R f [] a b = tt
 all-zip P Q R f (x ∷ xs) a b = (f x a.0 b.0, all-zip P Q R f xs a.1 b.1)
 
 pass-join : (xs ys : List Site) → PassAll xs → PassAll ys → PassAll (xs ++ ys)
-pass-join xs ys a b = all-zip (λ (r : Rule). Passes r.1 xs) (λ (r : Rule). Passes r.1 ys) (λ (r : Rule). Passes r.1 (xs ++ ys)) (λ r p q. all-join (λ x. r.1 x ≡ false) xs ys p q) rules a b
+pass-join xs ys a b =
+    all-zip (λ (r : Rule). Passes r.1 xs) (λ (r : Rule). Passes r.1 ys) (λ (r : Rule). Passes r.1 (xs ++ ys)) (λ r p q. all-join (λ x. r.1 x ≡ false) xs ys p q) rules a b
 
 -- ---- a leaf's lines do not look at other leaves
 
@@ -73,7 +74,8 @@ own-drivers bs [] n o = refl
 own-drivers bs (x ∷ xs) n o = rw (own-drives bs n x o.0, own-drivers bs xs n o.1) refl
 
 leaf-drivers : (bs : List Leaf) (l : Leaf) (n : Name) → drivers bs (leaf_lines l) n ≡ drivers [] (leaf_lines l) n
-leaf-drivers bs l n = ap (λ k. 0 + k) (own-drivers bs (map port l.ports ++ map item l.items) n (all-join IsOwn (map port l.ports) (map item l.items) (own-ports l.ports) (own-items l.items)))
+leaf-drivers bs l n =
+    ap (λ k. 0 + k) (own-drivers bs (map port l.ports ++ map item l.items) n (all-join IsOwn (map port l.ports) (map item l.items) (own-ports l.ports) (own-items l.items)))
 
 lacks-same : (bs : List Leaf) (l : Leaf) (o : Option Declared)
     → lacks_driver bs (leaf_lines l) o ≡ lacks_driver [] (leaf_lines l) o
@@ -89,7 +91,8 @@ passes-own : (t : Site → Bool) (bs : List Leaf) (all : List Line)
     → Passes t (sites_behind bs all before xs)
 unfolding at
 passes-own t bs all same before [] o p = tt
-passes-own t bs all same before (x ∷ xs) o p = (same before x o.0 ∙ p.0, passes-own t bs all same (before ++ x ∷ []) xs o.1 p.1)
+passes-own t bs all same before (x ∷ xs) o p =
+    (same before x o.0 ∙ p.0, passes-own t bs all same (before ++ x ∷ []) xs o.1 p.1)
 
 module _ (bs : List Leaf) (l : Leaf) where
   twice-same : (before : List Line) (x : Line) → IsOwn x
@@ -161,7 +164,8 @@ module _ (bs : List Leaf) (l : Leaf) where
       → ((before : List Line) (x : Line) → IsOwn x → t (at bs (leaf_lines l) before x) ≡ t (at [] (leaf_lines l) before x))
       → Passes t (sites_behind [] (leaf_lines l) (heading l.name ∷ []) (map port l.ports ++ map item l.items))
       → Passes t (sites_behind bs (leaf_lines l) (heading l.name ∷ []) (map port l.ports ++ map item l.items))
-  behind t same p = passes-own t bs (leaf_lines l) same (heading l.name ∷ []) (map port l.ports ++ map item l.items) own p
+  behind t same p =
+      passes-own t bs (leaf_lines l) same (heading l.name ∷ []) (map port l.ports ++ map item l.items) own p
 
   leaf-passes : leaf_named bs l.name ≡ None → PassAll (module_sites [] (leaf_lines l))
       → PassAll (module_sites bs (leaf_lines l))

@@ -40,7 +40,8 @@ pub each-map : (ls : List Leaf) (P Q : Leaf → Name → List Join → Type 0)
     → ((l : Leaf) (n : Name) (js : List Join) → P l n js → Q l n js) → (is : List TopItem) → Each ls P is → Each ls Q is
 each-map ls P Q f [] h = tt
 each-map ls P Q f (Wire x n ∷ is) h = (tt, each-map ls P Q f is h.1)
-each-map ls P Q f (Instance l n js ∷ is) h = (of-map (leaf_named ls l) (λ x. P x n js) (λ x. Q x n js) (λ x. f x n js) h.0, each-map ls P Q f is h.1)
+each-map ls P Q f (Instance l n js ∷ is) h =
+    (of-map (leaf_named ls l) (λ x. P x n js) (λ x. Q x n js) (λ x. f x n js) h.0, each-map ls P Q f is h.1)
 
 pub each-both : (ls : List Leaf) (P Q R : Leaf → Name → List Join → Type 0)
     → ((l : Leaf) (n : Name) (js : List Join) → P l n js → Q l n js → R l n js) → (is : List TopItem)
@@ -86,10 +87,12 @@ one-found {A = A} t (x ∷ xs) e = go (one-found t xs) (t x) refl
     go : (count_by t xs ≡ 1 → AllByRecursion (λ y. t y ≡ true → find t xs ≡ Some y) xs) → (b : Bool) → t x ≡ b
         → (t x ≡ true → find t (x ∷ xs) ≡ Some x) × AllByRecursion (λ y. t y ≡ true → find t (x ∷ xs) ≡ Some y) xs
     go rest true is =
-        let parts : count_by t (x ∷ xs) ≡ 1 + count_by t xs = count-cons t x xs ∙ ap (λ b. cond b 1 0 + count_by t xs) is in
+        let parts : count_by t (x ∷ xs) ≡ 1 + count_by t xs =
+        count-cons t x xs ∙ ap (λ b. cond b 1 0 + count_by t xs) is in
         ((λ h. rw is refl), never xs (count-none t xs (omega arith)))
     go rest false is =
-        let parts : count_by t (x ∷ xs) ≡ 0 + count_by t xs = count-cons t x xs ∙ ap (λ b. cond b 1 0 + count_by t xs) is in
+        let parts : count_by t (x ∷ xs) ≡ 0 + count_by t xs =
+        count-cons t x xs ∙ ap (λ b. cond b 1 0 + count_by t xs) is in
         ((λ h. absurd (both_ways (t x) is h)), lift xs is (rest (omega arith)))
 
 -- what is found passes, and has what each that passes has
@@ -126,7 +129,9 @@ pub record GoodInstance (all : List Line) (l : Leaf) (n : Name) (js : List Join)
 
 kind-front : (test : Kind → Bool) (before rest : List Line) (n : Name) → is_kind test before n ≡ true
     → is_kind test (before ++ rest) n ≡ true
-kind-front test before rest n e = let what = kind-of test before n e in ap (kind_passes test) (lookup-front before rest n what.0 what.1) ∙ what.2
+kind-front test before rest n e =
+    let what = kind-of test before n e in
+    ap (kind_passes test) (lookup-front before rest n what.0 what.1) ∙ what.2
 
 good-join : (all before rest : List Line) (l : Leaf) (j : Join) → all ≡ before ++ rest
     → joins_known before j.net (port_named l.ports j.port) ≡ true
@@ -135,7 +140,9 @@ good-join all before rest l j e known fits = go (port_named l.ports j.port) refl
   where
     out : (p : Port) → joins_known before j.net (Some p) ≡ true → (b : Bool) → p.output ≡ b → p.output ≡ true
         → is_kind is_driven all j.net ≡ true
-    out p k true is o = ap (λ x. is_kind is_driven x j.net) e ∙ kind-front is_driven before rest j.net (subst (λ b. is_kind (if b then is_driven else is_net) before j.net ≡ true) is k)
+    out p k true is o =
+        ap (λ x. is_kind is_driven x j.net) e
+        ∙ kind-front is_driven before rest j.net (subst (λ b. is_kind (if b then is_driven else is_net) before j.net ≡ true) is k)
     out p k false is o = absurd (both_ways p.output is o)
 
     some-net : (b : Bool) → is_kind (if b then is_driven else is_net) before j.net ≡ true
@@ -160,8 +167,10 @@ good-joins : (all before rest : List Line) (l : Leaf) (js : List Join) → all �
     → AllByRecursion (GoodJoin all l) js
 good-joins all before rest l [] e known fits = tt
 good-joins all before rest l (j ∷ js) e known fits =
-    let ks = and_parts (joins_known before j.net (port_named l.ports j.port)) (list_all (λ (j : Join). joins_known before j.net (port_named l.ports j.port)) js) known in
-    let fs = and_parts (join_fits (widths before) j.net (port_named l.ports j.port)) (list_all (λ (j : Join). join_fits (widths before) j.net (port_named l.ports j.port)) js) fits in
+    let ks =
+    and_parts (joins_known before j.net (port_named l.ports j.port)) (list_all (λ (j : Join). joins_known before j.net (port_named l.ports j.port)) js) known in
+    let fs =
+    and_parts (join_fits (widths before) j.net (port_named l.ports j.port)) (list_all (λ (j : Join). join_fits (widths before) j.net (port_named l.ports j.port)) js) fits in
     (good-join all before rest l j e ks.0 fs.0, good-joins all before rest l js e ks.1 fs.1)
 
 pub more-top : (all before : List Line) (x : TopItem) (is : List TopItem) → all ≡ before ++ map joint (x ∷ is)
@@ -176,7 +185,8 @@ pub good-instances : (ls : List Leaf) (all before : List Line) (is : List TopIte
     → Each ls (GoodInstance all) is
 unfolding name_unknown wrong_width wrong_joins
 good-instances ls all before [] e good known fits each = tt
-good-instances ls all before (Wire h n ∷ is) e good known fits each = (tt, good-instances ls all (before ++ joint (Wire h n) ∷ []) is (more-top all before (Wire h n) is e) good known.1 fits.1 each.1)
+good-instances ls all before (Wire h n ∷ is) e good known fits each =
+    (tt, good-instances ls all (before ++ joint (Wire h n) ∷ []) is (more-top all before (Wire h n) is e) good known.1 fits.1 each.1)
 good-instances ls all before (Instance l n js ∷ is) e good known fits each =
     (go (leaf_named ls l) refl, good-instances ls all (before ++ joint (Instance l n js) ∷ []) is (more-top all before (Instance l n js) is e) good known.1 fits.1 each.1)
   where
@@ -218,14 +228,17 @@ net-has ls inside P n y (Instance l i js ∷ is) other h = go (λ f. net-has ls 
     value : (x : Leaf) → ((drivers ls (map joint is) n ≡ 0 → P y) → P V) → leaf_named ls l ≡ Some x
         → AllByRecursion (λ (j : Join). join_drives x n j ≡ true → P ((turn x (inside i)).net j.port)) js
         → (o : Option Join) → find (join_drives x n) js ≡ o → P (port_value o (turn x (inside i)) V)
-    value x later named here None none = later (λ e. other (ap (λ o. instance_drives n js o + drivers ls (map joint is) n) named ∙ ap (λ k. k + drivers ls (map joint is) n) (found-none (join_drives x n) js none) ∙ omega arith))
-    value x later named here (Some j) some = (found-has (join_drives x n) (λ (j : Join). P ((turn x (inside i)).net j.port)) js j some here).1
+    value x later named here None none =
+        later (λ e. other (ap (λ o. instance_drives n js o + drivers ls (map joint is) n) named ∙ ap (λ k. k + drivers ls (map joint is) n) (found-none (join_drives x n) js none) ∙ omega arith))
+    value x later named here (Some j) some =
+        (found-has (join_drives x n) (λ (j : Join). P ((turn x (inside i)).net j.port)) js j some here).1
 
     go : ((drivers ls (map joint is) n ≡ 0 → P y) → P V) → (o : Option Leaf) → leaf_named ls l ≡ o
         → Of o (λ x. AllByRecursion (λ (j : Join). join_drives x n j ≡ true → P ((turn x (inside i)).net j.port)) js)
         → P (instance_value inside i js (leaf_named ls l) n V)
     go later None named here = absurd here
-    go later (Some x) named here = subst (λ o. P (instance_value inside i js o n V)) (sym named) (value x later named here (find (join_drives x n) js) refl)
+    go later (Some x) named here =
+        subst (λ o. P (instance_value inside i js o n V)) (sym named) (value x later named here (find (join_drives x n) js) refl)
 
 -- what holds of nothing that has no driver
 all-never : {A : Type 0} (t : A → Bool) (Q : A → Type 0) (xs : List A) → AllByRecursion (λ x. t x ≡ false) xs
@@ -246,7 +259,8 @@ none-drive ls n (Instance l i js ∷ is) k e = (go (leaf_named ls l) refl k.0, n
         → Of o (λ x. AllByRecursion (λ (j : Join). join_drives x n j ≡ false) js)
     go None is' h = h
     go (Some x) is' h =
-        let here : instance_drives n js (leaf_named ls l) ≡ count_by (join_drives x n) js = ap (instance_drives n js) is' in
+        let here : instance_drives n js (leaf_named ls l) ≡ count_by (join_drives x n) js =
+        ap (instance_drives n js) is' in
         count-none (join_drives x n) js (omega arith)
 
 -- a net with one driver has that port's number
@@ -261,7 +275,8 @@ net-one ls inside n y (Instance l i js ∷ is) k e = go (net-one ls inside n y i
     V = net_value ls inside is n y
 
     Tail : ℕ → Type 0
-    Tail value = Each ls (λ l i js. AllByRecursion (λ (j : Join). join_drives l n j ≡ true → value ≡ (turn l (inside i)).net j.port) js) is
+    Tail value =
+        Each ls (λ l i js. AllByRecursion (λ (j : Join). join_drives l n j ≡ true → value ≡ (turn l (inside i)).net j.port) js) is
 
     found-one : (x : Leaf) (ks : List Join)
         → AllByRecursion (λ (j : Join). join_drives x n j ≡ true → find (join_drives x n) js ≡ Some j) ks
@@ -291,7 +306,8 @@ net-one ls inside n y (Instance l i js ∷ is) k e = go (net-one ls inside n y i
         )
     with_leaf one none x named (Some j) is' =
         let all = counted x named in
-        let some : 1 ≤ count_by (join_drives x n) js = not-none (count_by (join_drives x n) js) (λ z. none-some j (sym (none-found (join_drives x n) js (count-none (join_drives x n) js z)) ∙ is')) in
+        let some : 1 ≤ count_by (join_drives x n) js =
+        not-none (count_by (join_drives x n) js) (λ z. none-some j (sym (none-found (join_drives x n) js (count-none (join_drives x n) js z)) ∙ is')) in
         (found-one x js (one-found (join_drives x n) js (omega arith)), never (none (omega arith)) (port_value (find (join_drives x n) js) (turn x (inside i)) V))
       where
         not-none : (c : ℕ) → (c ≡ 0 → ⊥) → 1 ≤ c
@@ -312,12 +328,14 @@ later-differs : (ls : List Leaf) (all before : List Line) (is : List TopItem) (n
     → Each ls (λ l i js. bytes_eq i n ≡ false) is
 unfolding name_twice
 later-differs ls all before [] n x k p e = tt
-later-differs ls all before (Wire h m ∷ is) n x k p e = (tt, later-differs ls all (before ++ joint (Wire h m) ∷ []) is n x k.1 p.1 (lookup-front before (joint (Wire h m) ∷ []) n x e))
+later-differs ls all before (Wire h m ∷ is) n x k p e =
+    (tt, later-differs ls all (before ++ joint (Wire h m) ∷ []) is n x k.1 p.1 (lookup-front before (joint (Wire h m) ∷ []) n x e))
 later-differs ls all before (Instance l i js ∷ is) n x k p e =
     (go (leaf_named ls l) k.0, later-differs ls all (before ++ joint (Instance l i js) ∷ []) is n x k.1 p.1 (lookup-front before (joint (Instance l i js) ∷ []) n x e))
   where
     other : bytes_eq i n ≡ false
-    other = false_from_ne_true (bytes_eq i n) (λ same. both_ways (is_some (lookup before i)) p.0 (ap (λ m. is_some (lookup before m)) (one-name i n same) ∙ ap is_some e))
+    other =
+        false_from_ne_true (bytes_eq i n) (λ same. both_ways (is_some (lookup before i)) p.0 (ap (λ m. is_some (lookup before m)) (one-name i n same) ∙ ap is_some e))
 
     go : (o : Option Leaf) → Of o (λ x. Unit {0}) → Of o (λ x. bytes_eq i n ≡ false)
     go None h = h
@@ -346,7 +364,8 @@ pub found-at : (ls : List Leaf) (all before : List Line) (is : List TopItem)
     → Passes name_twice (sites_behind ls all before (map joint is))
     → Each ls (λ l i js. by_name ls is f other i ≡ f (Some l) i js) is
 found-at ls all before [] f other k p = tt
-found-at ls all before (Wire h m ∷ is) f other k p = (tt, found-at ls all (before ++ joint (Wire h m) ∷ []) is f other k.1 p.1)
+found-at ls all before (Wire h m ∷ is) f other k p =
+    (tt, found-at ls all (before ++ joint (Wire h m) ∷ []) is f other k.1 p.1)
 found-at ls all before (Instance l i js ∷ is) f other k p = (
   go (leaf_named ls l) refl k.0,
   each-both ls (λ y m ks. bytes_eq m i ≡ false) (λ y m ks. by_name ls is f other m ≡ f (Some y) m ks) (λ y m ks. by_name ls (Instance l i js ∷ is) f other m ≡ f (Some y) m ks)
@@ -356,7 +375,8 @@ found-at ls all before (Instance l i js ∷ is) f other k p = (
 )
   where
     here : (z : Declared) × (lookup (before ++ joint (Instance l i js) ∷ []) i ≡ Some z)
-    here = lookup-last before (joint (Instance l i js)) i (record { name = i; kind = Child; high = 0; last = 0 }) (rw (itself i) refl)
+    here =
+        lookup-last before (joint (Instance l i js)) i (record { name = i; kind = Child; high = 0; last = 0 }) (rw (itself i) refl)
 
     go : (o : Option Leaf) → leaf_named ls l ≡ o → Of o (λ x. Unit {0})
         → Of o (λ y. by_name ls (Instance l i js ∷ is) f other i ≡ f (Some y) i js)
