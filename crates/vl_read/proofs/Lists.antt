@@ -48,7 +48,8 @@ enough {X} (suc n) (suc m) c p q ts takes l k =
             | Ok x ↦ λ is.
                 let s = takes ts x.0 x.1 is in
                 let e = enough n m c p q x.1 takes (omega arith) (omega arith) in
-                step_of n c p q ts x.0 x.1 passes is ∙ ap (λ o. made_of in_front (paired x.0 o)) e ∙ sym (step_of m c p q ts x.0 x.1 passes is)
+                step_of n c p q ts x.0 x.1 passes is ∙ ap (λ o. made_of in_front (paired x.0 o)) e
+                ∙ sym (step_of m c p q ts x.0 x.1 passes is)
             | Err i ↦ λ is. stop_of n i c p q ts passes is ∙ sym (stop_of m i c p q ts passes is)
           ] refl
       | false ↦ λ passes. end_of n c p q ts passes ∙ sym (end_of m c p q ts passes)
@@ -59,7 +60,8 @@ pub until_on : {X Y : Type 0} (c : Token → Bool) (p : Reader X) (q : Reader Y)
 unfolding until
 until_on c p q ts x r takes passes e =
     let s = takes ts x r e in
-    step_of (length ts) c p q ts x r passes e ∙ ap (λ o. made_of in_front (paired x o)) (enough (length ts) (suc (length r)) c p q r takes s (omega arith))
+    step_of (length ts) c p q ts x r passes e
+    ∙ ap (λ o. made_of in_front (paired x o)) (enough (length ts) (suc (length r)) c p q r takes s (omega arith))
 
 pub until_stops : {X Y : Type 0} (c : Token → Bool) (p : Reader X) (q : Reader Y) (ts : List Placed) (n : ℕ)
     → next_passes c ts ≡ true → p ts ≡ Err n → until c p q ts ≡ Err n
@@ -86,7 +88,8 @@ pub loop_on : {X Y : Type 0} (c : Token → Bool) (p : Reader X) (q : Reader Y) 
     (r : List Placed) (total : Result ((List X × Y) × List Placed) ℕ)
     → Takes p → next_passes c ts ≡ true → p ts ≡ Ok (x, r) → more_of xs (until c p q ts) ≡ total
     → more_of (xs ++ x ∷ []) (until c p q r) ≡ total
-loop_on c p q xs ts x r total takes passes e so_far = sym (regroup xs x (until c p q r)) ∙ sym (ap (more_of xs) (until_on c p q ts x r takes passes e)) ∙ so_far
+loop_on c p q xs ts x r total takes passes e so_far =
+    sym (regroup xs x (until c p q r)) ∙ sym (ap (more_of xs) (until_on c p q ts x r takes passes e)) ∙ so_far
 
 pub loop_stops : {X Y : Type 0} (e : ReadError) (c : Token → Bool) (p : Reader X) (q : Reader Y) (xs : List X)
     (ts : List Placed) (total : Result ((List X × Y) × List Placed) ℕ)
@@ -105,4 +108,5 @@ pub loop_refused : {X Y : Type 0} (e : ReadError) (c : Token → Bool) (p : Read
     (ts : List Placed) (total : Result ((List X × Y) × List Placed) ℕ)
     → next_passes c ts ≡ false → Fails e (q ts) → more_of xs (until c p q ts) ≡ total → Fails e total
 loop_refused (Memory a) c p q xs ts total passes f so_far = tt
-loop_refused (At n) c p q xs ts total passes f so_far = sym so_far ∙ ap (more_of xs) (until_ends c p q ts passes ∙ ap (made_of alone) f)
+loop_refused (At n) c p q xs ts total passes f so_far =
+    sym so_far ∙ ap (more_of xs) (until_ends c p q ts passes ∙ ap (made_of alone) f)

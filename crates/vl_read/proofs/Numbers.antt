@@ -44,17 +44,22 @@ value_ends base number i ds is fits all =
 pub value_stops : (base number i : ℕ) (ds : List ℕ) → 0 < base → i < length ds → number ≡ digits_value base (take i ds)
     → fitting (number * base + digit_value (get_or ds i 0)) ≡ None → None ≡ fitting (digits_value base ds)
 value_stops base number i ds some lt is e =
-    let f = fits_not (ltb (number * base + digit_value (get_or ds i 0)) (2 ^ 64)) (number * base + digit_value (get_or ds i 0)) e in
+    let f =
+    fits_not (ltb (number * base + digit_value (get_or ds i 0)) (2 ^ 64)) (number * base + digit_value (get_or ds i 0)) e in
     let large : 2 ^ 64 ≤ number * base + digit_value (get_or ds i 0) = ltb-false _ _ f in
-    let grown : digits_value base (take (i + 1) ds) ≡ number * base + digit_value (get_or ds i 0) = rw is (digits_value_more base ds i lt) in
-    let t : ltb (digits_value base ds) (2 ^ 64) ≡ false = le-ltb _ _ (omega (arith, digits_value-take-le base ds (i + 1) some, grown)) in
+    let grown : digits_value base (take (i + 1) ds) ≡ number * base + digit_value (get_or ds i 0) =
+    rw is (digits_value_more base ds i lt) in
+    let t : ltb (digits_value base ds) (2 ^ 64) ≡ false =
+    le-ltb _ _ (omega (arith, digits_value-take-le base ds (i + 1) some, grown)) in
     rw t refl
 
 pub value_on : (base number i m : ℕ) (ds : List ℕ) → i < length ds → number ≡ digits_value base (take i ds)
     → fitting (number * base + digit_value (get_or ds i 0)) ≡ Some m
     → (m ≡ digits_value base (take (i + 1) ds)) × (m < 2 ^ 64)
 value_on base number i m ds lt is e =
-    let f = fits_is (ltb (number * base + digit_value (get_or ds i 0)) (2 ^ 64)) (number * base + digit_value (get_or ds i 0)) m e in
-    let grown : digits_value base (take (i + 1) ds) ≡ number * base + digit_value (get_or ds i 0) = rw is (digits_value_more base ds i lt) in
+    let f =
+    fits_is (ltb (number * base + digit_value (get_or ds i 0)) (2 ^ 64)) (number * base + digit_value (get_or ds i 0)) m e in
+    let grown : digits_value base (take (i + 1) ds) ≡ number * base + digit_value (get_or ds i 0) =
+    rw is (digits_value_more base ds i lt) in
     let below = ltb-true (number * base + digit_value (get_or ds i 0)) (2 ^ 64) f.0 in
     (sym f.1 ∙ sym grown, omega (arith, f.1))

@@ -105,7 +105,8 @@ sized_within n w (b ∷ ds) after h =
 run_within : (n : ℕ) (r after : List ℕ) → 0 < length r → length r + length after ≤ n → IsWithin n (run_at r after)
 run_within n r after some h =
     let short : length r ≤ n = omega arith in
-    let behind : next_is 39 after ≡ true → length r + 1 + length (run_of (drop 1 after)) ≤ n = λ e. omega (arith, next_some 39 after e, length-drop 1 after, length-prefix_len is_run (drop 1 after), prefix_len-le-length is_run (drop 1 after)) in
+    let behind : next_is 39 after ≡ true → length r + 1 + length (run_of (drop 1 after)) ≤ n =
+    λ e. omega (arith, next_some 39 after e, length-drop 1 after, length-prefix_len is_run (drop 1 after), prefix_len-le-length is_run (drop 1 after)) in
     one_within n (is_word r) (piece (mark r) (length r)) (cond (is_name r) (piece (name r) (length r)) (cond (next_is 39 after) (sized_at r (run_of (drop 1 after)) (after_run (drop 1 after))) (cond (is_plain r) (piece (plain (digits_value 10 r)) (length r)) None))) (λ e. (some, short))
     (λ e. one_within n (is_name r) (piece (name r) (length r)) (cond (next_is 39 after) (sized_at r (run_of (drop 1 after)) (after_run (drop 1 after))) (cond (is_plain r) (piece (plain (digits_value 10 r)) (length r)) None)) (λ e. (some, short))
     (λ e. one_within n (next_is 39 after) (sized_at r (run_of (drop 1 after)) (after_run (drop 1 after))) (cond (is_plain r) (piece (plain (digits_value 10 r)) (length r)) None) (λ e. sized_within n r (run_of (drop 1 after)) (after_run (drop 1 after)) (behind e))

@@ -55,7 +55,8 @@ pub phrase_more : (text : List ℕ) (n : ℕ) (ts r : List Placed) → n ≡ pre
 phrase_more text n ts r is lt e =
     let below : prefix_len no_space text < length text = omega arith in
     let k : split text ≡ take n text ∷ split (drop (n + 1) text) = rw is (split_more text below) in
-    ap (λ ms. phrase_of ms ts) k ∙ first_mark (take n text) (split (drop (n + 1) text)) ts r e ∙ same_done (phrase_of (split (drop (n + 1) text)) r)
+    ap (λ ms. phrase_of ms ts) k ∙ first_mark (take n text) (split (drop (n + 1) text)) ts r e
+    ∙ same_done (phrase_of (split (drop (n + 1) text)) r)
 
 -- where the first one doesn't fit
 pub phrase_stops : (text : List ℕ) (n m : ℕ) (ts : List Placed) → n ≡ prefix_len no_space text → n ≤ length text

@@ -63,5 +63,6 @@ no_part (Ok y) ts x r is e = let h : part_at (expr_at zero) ts ≡ Err (left_of 
 no_part (Err n) ts x r is e = let h : part_at (expr_at zero) ts ≡ Err n = rw is refl in absurd (ok_err (sym e ∙ h))
 
 pub part_takes : (d : ℕ) → Takes (part_at (expr_at d))
-part_takes (suc d) ts x r e = takes_of _ _ _ (part_at (expr_at (suc d))) (opened_form (codes ",") refl (an_expr d) (expr_form (suc d))) (λ x. omega arith) ts x r e
+part_takes (suc d) ts x r e =
+    takes_of _ _ _ (part_at (expr_at (suc d))) (opened_form (codes ",") refl (an_expr d) (expr_form (suc d))) (λ x. omega arith) ts x r e
 part_takes zero ts x r e = no_part (phrase (codes ",") ts) ts x r refl e
