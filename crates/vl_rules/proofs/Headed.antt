@@ -24,9 +24,11 @@ pub at-item : {P Q L : Type 0} (h : L) (f : P → L) (g : Q → L) (ps : List P)
 at-item h f g ps qs n m x same past whole e =
     let ports : length (map f ps) ≡ length ps = rw length-map refl in
     let items : length (map g qs) ≡ length qs = rw length-map refl in
-    let all : length (map f ps ++ map g qs) ≡ length (map f ps) + length (map g qs) = length-append (map f ps) (map g qs) in
+    let all : length (map f ps ++ map g qs) ≡ length (map f ps) + length (map g qs) =
+    length-append (map f ps) (map g qs) in
     let from : n ≡ suc (length (map f ps) + (n - 1 - m)) = omega arith in
-    ap (slice_get (h ∷ (map f ps ++ map g qs))) from ∙ behind (map f ps) (map g qs) (n - 1 - m) ∙ mapped g qs (n - 1 - m) x (omega arith) e
+    ap (slice_get (h ∷ (map f ps ++ map g qs))) from ∙ behind (map f ps) (map g qs) (n - 1 - m)
+    ∙ mapped g qs (n - 1 - m) x (omega arith) e
 
 -- a place in a list that was lengthened by one
 pub at-end : {A : Type 0} (xs : List A) (x y : A) (j : ℕ) → slice_get (xs ++ x ∷ []) j ≡ Some y

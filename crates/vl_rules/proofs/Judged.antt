@@ -46,4 +46,5 @@ pub ruleset uses = (list_all-append)
 -- one that fails, behind others that don't
 pub all-stops : {A : Type 0} (p : A → Bool) (xs : List A) (i : ℕ) (x : A) → i < length xs → x ≡ get_or xs i x
     → p x ≡ false → list_all p (drop i xs) ≡ false
-all-stops p xs i x h e f = rw (drop-cons xs i x) (ap (λ y. p y && list_all p (drop (suc i) xs)) (sym e) ∙ ap (λ b. b && list_all p (drop (suc i) xs)) f)
+all-stops p xs i x h e f =
+    rw (drop-cons xs i x) (ap (λ y. p y && list_all p (drop (suc i) xs)) (sym e) ∙ ap (λ b. b && list_all p (drop (suc i) xs)) f)

@@ -62,8 +62,10 @@ noted-snoc i (y ∷ xs) x n =
 pub noted-more : (xs : List Line) (k : ℕ) (x : Line) (n : Name) → slice_get xs k ≡ Some x
     → noted 0 (take (k + 1) xs) n ≡ option_or (noted 0 (take k xs) n) (entry_at k (declared x) n)
 noted-more xs k x n e =
-    let here : 0 + length (take k xs) ≡ k = (let h = within xs k x e in let h' = taken-length xs k (omega arith) in omega arith) in
-    ap (λ ys. noted 0 ys n) (taken xs k x e) ∙ noted-snoc 0 (take k xs) x n ∙ ap (λ j. option_or (noted 0 (take k xs) n) (entry_at j (declared x) n)) here
+    let here : 0 + length (take k xs) ≡ k =
+    (let h = within xs k x e in let h' = taken-length xs k (omega arith) in omega arith) in
+    ap (λ ys. noted 0 ys n) (taken xs k x e) ∙ noted-snoc 0 (take k xs) x n
+    ∙ ap (λ j. option_or (noted 0 (take k xs) n) (entry_at j (declared x) n)) here
 
 -- an entry that is there, and none before its line
 early : (i j : ℕ) (d : Option Declared) (n : Name) (rest : Option Entry) → j ≤ i → before j n rest ≡ None
@@ -91,7 +93,8 @@ first-seen i k (Some x) n rest later h e = go (bytes_eq n x.name) refl
   where
     go : (b : Bool) → bytes_eq n x.name ≡ b
         → before k n (option_or (cond b (Some (record { line = i; kind = x.kind; high = x.high; last = x.last })) None) rest) ≡ cond b (Some x) later
-    go true f = rw (lt-ltb i k h) (ap (λ m. Some (record { name = m; kind = x.kind; high = x.high; last = x.last })) (bytes_same n x.name f))
+    go true f =
+        rw (lt-ltb i k h) (ap (λ m. Some (record { name = m; kind = x.kind; high = x.high; last = x.last })) (bytes_same n x.name f))
     go false f = e
 
 noted-seen : (i : ℕ) (xs : List Line) (n : Name) (k : ℕ) → before (i + k) n (noted i xs n) ≡ lookup (take k xs) n
@@ -126,7 +129,8 @@ pub position-more : {A : Type 0} (p : A → Bool) (xs : List A) (k : ℕ) (x : A
 position-more p xs k x e =
     let h = within xs k x e in
     let here : 0 + length (take k xs) ≡ k = (let h' = taken-length xs k (omega arith) in omega arith) in
-    ap (position_from p 0) (taken xs k x e) ∙ position-snoc p 0 (take k xs) x ∙ ap (λ j. option_or (position_from p 0 (take k xs)) (cond (p x) (Some j) None)) here
+    ap (position_from p 0) (taken xs k x e) ∙ position-snoc p 0 (take k xs) x
+    ∙ ap (λ j. option_or (position_from p 0 (take k xs)) (cond (p x) (Some j) None)) here
 
 position-late : {A : Type 0} (p : A → Bool) (i j : ℕ) (xs : List A) → j ≤ i → is_below j (position_from p i xs) ≡ false
 position-late p i j [] h = refl

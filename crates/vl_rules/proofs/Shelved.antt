@@ -136,7 +136,8 @@ shape-ports : (ps : List Port) (is : List Item) (n : Name)
     → shape_in (lookup (map port ps ++ map item is) n) ≡ option_map shape_of (port_named ps n)
 unfolding shape_in
 shape-ports [] is n = shape-items is n
-shape-ports (p ∷ ps) is n = shape-port p n (lookup (map port ps ++ map item is) n) (port_named ps n) (shape-ports ps is n)
+shape-ports (p ∷ ps) is n =
+    shape-port p n (lookup (map port ps ++ map item is) n) (port_named ps n) (shape-ports ps is n)
 
 -- what the leaf's lines declare under a name says the shape of its port
 pub shape-none : (ps : List Port) (is : List Item) (n : Name) → lookup (map port ps ++ map item is) n ≡ None

@@ -38,7 +38,8 @@ sited : (t : Site → Bool) (ls : List Leaf) (all xs : List Line) (x : Line)
     → position_from t 0 (sites_behind ls all [] xs) ≡ None
     → position_from t 0 (sites_behind ls all [] (xs ++ x ∷ [])) ≡ cond (t (record { leaves = ls; lines = all; before = xs; line = x })) (Some (length xs)) None
 sited t ls all xs x e =
-    let here : 0 + length (sites_behind ls all [] xs) ≡ length xs = (let same = sites-length ls all [] xs in omega arith) in
+    let here : 0 + length (sites_behind ls all [] xs) ≡ length xs =
+    (let same = sites-length ls all [] xs in omega arith) in
     ap (position_from t 0) (sites-append ls all [] xs (x ∷ []))
     ∙ position-append t 0 (sites_behind ls all [] xs) (record { leaves = ls; lines = all; before = xs; line = x } ∷ [])
     ∙ ap (λ o. option_or o (position_from t (0 + length (sites_behind ls all [] xs)) (record { leaves = ls; lines = all; before = xs; line = x } ∷ []))) e
@@ -48,7 +49,8 @@ module _ (t : Site → Bool) (ls : List Leaf) (lines : List Line) (k : ℕ) (x :
   upto : position_from t 0 (sites_behind ls lines [] (take (k + 1) lines)) ≡ cond (t (record { leaves = ls; lines = lines; before = take k lines; line = x })) (Some k) None
   upto =
       let h = within lines k x at in
-      ap (λ ys. position_from t 0 (sites_behind ls lines [] ys)) (taken lines k x at) ∙ sited t ls lines (take k lines) x none
+      ap (λ ys. position_from t 0 (sites_behind ls lines [] ys)) (taken lines k x at)
+      ∙ sited t ls lines (take k lines) x none
       ∙ ap (λ j. cond (t (record { leaves = ls; lines = lines; before = take k lines; line = x })) (Some j) None) (taken-length lines k (omega arith))
 
   -- the line doesn't pass
@@ -85,7 +87,8 @@ pub position-behind : {A : Type 0} (p : A → Bool) (xs ys : List A) → positio
     → position_from p 0 (xs ++ ys) ≡ option_map (λ n. length xs + n) (position_from p 0 ys)
 position-behind p xs ys e =
     let same : 0 + length xs ≡ length xs + 0 = omega arith in
-    position-append p 0 xs ys ∙ ap (λ o. option_or o (position_from p (0 + length xs) ys)) e ∙ ap (λ n. position_from p n ys) same ∙ position-shift p (length xs) 0 ys
+    position-append p 0 xs ys ∙ ap (λ o. option_or o (position_from p (0 + length xs) ys)) e
+    ∙ ap (λ n. position_from p n ys) same ∙ position-shift p (length xs) 0 ys
 
 pub position-front : {A : Type 0} (p : A → Bool) (xs ys : List A) (n : ℕ) → position_from p 0 xs ≡ Some n
     → position_from p 0 (xs ++ ys) ≡ Some n
@@ -101,17 +104,21 @@ leaf-sites-append before (x ∷ xs) ys =
 module _ (t : Site → Bool) (ls : List Leaf) (k : ℕ) (l : Leaf) (at : slice_get ls k ≡ Some l) where
   pub one-leaf-more : leaf_sites [] (take (k + 1) ls) ≡ leaf_sites [] (take k ls) ++ module_sites (take k ls) (leaf_lines l)
   one-leaf-more =
-      ap (leaf_sites []) (taken ls k l at) ∙ leaf-sites-append [] (take k ls) (l ∷ []) ∙ ap (λ zs. leaf_sites [] (take k ls) ++ zs) (append-nil (module_sites (take k ls) (leaf_lines l)))
+      ap (leaf_sites []) (taken ls k l at) ∙ leaf-sites-append [] (take k ls) (l ∷ [])
+      ∙ ap (λ zs. leaf_sites [] (take k ls) ++ zs) (append-nil (module_sites (take k ls) (leaf_lines l)))
 
   pub one-leaf-longer : length (leaf_sites [] (take (k + 1) ls)) ≡ length (leaf_sites [] (take k ls)) + length (leaf_lines l)
-  one-leaf-longer = ap length one-leaf-more ∙ length-append (leaf_sites [] (take k ls)) (module_sites (take k ls) (leaf_lines l)) ∙ ap (λ n. length (leaf_sites [] (take k ls)) + n) (sites-length (take k ls) (leaf_lines l) [] (leaf_lines l))
+  one-leaf-longer =
+      ap length one-leaf-more ∙ length-append (leaf_sites [] (take k ls)) (module_sites (take k ls) (leaf_lines l))
+      ∙ ap (λ n. length (leaf_sites [] (take k ls)) + n) (sites-length (take k ls) (leaf_lines l) [] (leaf_lines l))
 
   -- no line of one leaf more
   pub leaf-none : position_from t 0 (leaf_sites [] (take k ls)) ≡ None
       → position_from t 0 (module_sites (take k ls) (leaf_lines l)) ≡ None
       → position_from t 0 (leaf_sites [] (take (k + 1) ls)) ≡ None
   leaf-none e f =
-      ap (position_from t 0) one-leaf-more ∙ position-behind t (leaf_sites [] (take k ls)) (module_sites (take k ls) (leaf_lines l)) e
+      ap (position_from t 0) one-leaf-more
+      ∙ position-behind t (leaf_sites [] (take k ls)) (module_sites (take k ls) (leaf_lines l)) e
       ∙ ap (option_map (λ n. length (leaf_sites [] (take k ls)) + n)) f
 
   -- the first line is in this leaf
@@ -133,7 +140,9 @@ there (x ∷ xs) (suc k) h = there xs k (omega arith)
 
 pub module-is : (t : Site → Bool) (ks ls : List Leaf) (ys xs : List Line) (o p : Option ℕ) → ks ≡ ls → ys ≡ xs
     → o ≡ position_from t 0 (module_sites ks ys) → o ≡ p → position_from t 0 (module_sites ls xs) ≡ p
-module-is t ks ls ys xs o p e f g h = ap (λ zs. position_from t 0 (module_sites zs xs)) (sym e) ∙ ap (λ zs. position_from t 0 (module_sites ks zs)) (sym f) ∙ sym g ∙ h
+module-is t ks ls ys xs o p e f g h =
+    ap (λ zs. position_from t 0 (module_sites zs xs)) (sym e)
+    ∙ ap (λ zs. position_from t 0 (module_sites ks zs)) (sym f) ∙ sym g ∙ h
 
 pub not-some : (o : Option ℕ) → ((n : ℕ) → o ≡ Some n → ⊥) → o ≡ None
 not-some None h = refl
@@ -145,4 +154,6 @@ pub top-is : (t : Site → Bool) (ls : List Leaf) (lines : List Line) (k : ℕ) 
     → position_from t 0 (leaf_sites [] ls ++ module_sites ls lines) ≡ option_map (λ n. length (leaf_sites [] (take k ls)) + n) o
 top-is t ls lines k o h e f =
     let all : take k ls ≡ ls = take_all k ls h in
-    ap (λ zs. position_from t 0 (leaf_sites [] zs ++ module_sites ls lines)) (sym all) ∙ position-behind t (leaf_sites [] (take k ls)) (module_sites ls lines) e ∙ ap (option_map (λ n. length (leaf_sites [] (take k ls)) + n)) f
+    ap (λ zs. position_from t 0 (leaf_sites [] zs ++ module_sites ls lines)) (sym all)
+    ∙ position-behind t (leaf_sites [] (take k ls)) (module_sites ls lines) e
+    ∙ ap (option_map (λ n. length (leaf_sites [] (take k ls)) + n)) f

@@ -58,7 +58,8 @@ row w (parts e es) t h = go (agrees w e) (nat_le (t + width_of w e) 64) refl ref
         → (t + width_of w e ≤ 64 → parts_width w (t + width_of w e) es ≡ cond (all_agree w es && nat_le ((t + width_of w e) + widths_of w es) 64) (Some ((t + width_of w e) + widths_of w es)) None)
         → parts_width w t (parts e es) ≡ cond (all_agree w (parts e es) && nat_le (t + widths_of w (parts e es)) 64) (Some (t + widths_of w (parts e es))) None
     go false f a g rest = rw a refl
-    go true true a g rest = rw (a, g) (rest (some-fits t (width_of w e) g) ∙ ap (λ x. cond (all_agree w es && nat_le x 64) (Some x) None) assoc)
+    go true true a g rest =
+        rw (a, g) (rest (some-fits t (width_of w e) g) ∙ ap (λ x. cond (all_agree w es && nat_le x 64) (Some x) None) assoc)
     go true false a g rest = rw (a, g, no-fit t (width_of w e) (widths_of w es) g) (sym (never (all_agree w es)))
       where
         never : (b : Bool) → cond (b && false) (Some (t + (width_of w e + widths_of w es))) None ≡ None
@@ -75,7 +76,9 @@ pub row_at : (w : Widths) (t : ℕ) (xs : List code.Expr) (i : ℕ) (x : code.Ex
     → parts_width w t (reads (drop i xs)) ≡ cond (agrees w (read x) && nat_le (t + width_of w (read x)) 64) (parts_width w (t + width_of w (read x)) (reads (drop (i + 1) xs))) None
 row_at w t [] i x h e = absurd (omega arith)
 row_at w t (y ∷ xs) zero x h e = rw e refl
-row_at w t (y ∷ xs) (suc i) x h e = row_at w t xs i x (omega arith) e ∙ ap (λ z. cond (agrees w (read x) && nat_le (t + width_of w (read x)) 64) (parts_width w (t + width_of w (read x)) (reads z)) None) (drop-more y xs i)
+row_at w t (y ∷ xs) (suc i) x h e =
+    row_at w t xs i x (omega arith) e
+    ∙ ap (λ z. cond (agrees w (read x) && nat_le (t + width_of w (read x)) 64) (parts_width w (t + width_of w (read x)) (reads z)) None) (drop-more y xs i)
 
 pub ruleset rows = (row_at, has_width)
 

@@ -17,7 +17,8 @@ capped a b = omega arith
 pub drivers-more : (leaves : List Leaf) (xs : List Line) (k : ℕ) (x : Line) (n : Name) → slice_get xs k ≡ Some x
     → min 2 (min 2 (drivers leaves (take k xs) n) + drives leaves n x) ≡ min 2 (drivers leaves (take (k + 1) xs) n)
 drivers-more leaves xs k x n e =
-    capped (drivers leaves (take k xs) n) (drives leaves n x) ∙ ap (min 2) (sym (drivers-snoc leaves (take k xs) x n)) ∙ ap (λ ys. min 2 (drivers leaves ys n)) (sym (taken xs k x e))
+    capped (drivers leaves (take k xs) n) (drives leaves n x) ∙ ap (min 2) (sym (drivers-snoc leaves (take k xs) x n))
+    ∙ ap (λ ys. min 2 (drivers leaves ys n)) (sym (taken xs k x e))
 
 depending-snoc : (ns : List Name) (xs : List Line) (x : Line)
     → all_depending ns (xs ++ x ∷ []) ≡ depending (all_depending ns xs) x
