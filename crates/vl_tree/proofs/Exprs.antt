@@ -159,8 +159,10 @@ no_word (at_word e) v = v
 
 word_form : (d : ℕ) (below : Reader Expr) → IsForm expr_tokens (Fits d) after_expr below
     → IsForm behind (IsWord d) any (deeper d (made at_word (closed below (codes "]"))))
-word_form zero below held = same_form behind (IsWord zero) (λ x v. refl) (λ x v. absurd v) no_word (none_form behind any)
-word_form (suc d) below held = made_form (λ e. expr_tokens e ++ marks (codes "]")) (Fits (suc d)) behind (IsWord (suc d)) any at_word (closed below (codes "]")) (λ x v. refl) (λ x v. v) (word_from (suc d)) (closed_form (codes "]") refl refl held)
+word_form zero below held =
+    same_form behind (IsWord zero) (λ x v. refl) (λ x v. absurd v) no_word (none_form behind any)
+word_form (suc d) below held =
+    made_form (λ e. expr_tokens e ++ marks (codes "]")) (Fits (suc d)) behind (IsWord (suc d)) any at_word (closed below (codes "]")) (λ x v. refl) (λ x v. v) (word_from (suc d)) (closed_form (codes "]") refl refl held)
 
 index_form : (d : ℕ) (below : Reader Expr) → IsForm expr_tokens (Fits d) after_expr below
     → IsForm behind (IsIndex d) any (either is_plain_token numbers_at (deeper d (made at_word (closed below (codes "]")))))
@@ -452,7 +454,8 @@ within_form d below held =
 group_spelled : (d : ℕ) (x : Expr) → IsGroup d x
     → expr_tokens x ≡ marks (codes "(") ++ (within_tokens x ++ marks (codes ")"))
 group_spelled d (not e) v = refl
-group_spelled d (two op a b) v = ap (λ ts. mark (codes "(") ∷ ts) (sym (append_assoc (expr_tokens a) (op_mark op ∷ expr_tokens b) (marks (codes ")"))))
+group_spelled d (two op a b) v =
+    ap (λ ts. mark (codes "(") ∷ ts) (sym (append_assoc (expr_tokens a) (op_mark op ∷ expr_tokens b) (marks (codes ")"))))
 group_spelled d (choose c a b) v = ap (λ ts. mark (codes "(") ∷ ts) (simp append_assoc)
 group_spelled d _ v = absurd v
 
@@ -469,7 +472,8 @@ each_more : (es : List Expr)
     → more_tokens (parts_from es) ≡ each (λ e. marks (codes ",") ++ expr_tokens e) es ++ marks (codes "}")
 each_more [] = refl
 each_more (e ∷ es) =
-    ap (λ ts. mark (codes ",") ∷ (expr_tokens e ++ ts)) (each_more es) ∙ ap (λ ts. mark (codes ",") ∷ ts) (sym (append_assoc (expr_tokens e) (each (λ e. marks (codes ",") ++ expr_tokens e) es) (marks (codes "}"))))
+    ap (λ ts. mark (codes ",") ∷ (expr_tokens e ++ ts)) (each_more es)
+    ∙ ap (λ ts. mark (codes ",") ∷ ts) (sym (append_assoc (expr_tokens e) (each (λ e. marks (codes ",") ++ expr_tokens e) es) (marks (codes "}"))))
 
 list_of : Exprs → List Expr
 list_of no_parts = []
@@ -501,7 +505,8 @@ cat_of x = cat (parts x.0 (parts_from x.1.0))
 
 cat_from : (d : ℕ) (y : Expr) → IsCat d y
     → (x : CatOf) × (Fits d x.0 × (AllByRecursion (Fits d) x.1.0 × Unit {0})) × (cat_of x ≡ y)
-cat_from d (cat (parts e es)) v = ((e, (list_of es, tt)), (v.0, (fit_all d es v.1, tt)), ap (λ us. cat (parts e us)) (list_back es))
+cat_from d (cat (parts e es)) v =
+    ((e, (list_of es, tt)), (v.0, (fit_all d es v.1, tt)), ap (λ us. cat (parts e us)) (list_back es))
 cat_from d _ v = absurd v
 
 comma_after : (k : Token) → is_mark (codes ",") k ≡ true → after_expr k ≡ true
@@ -631,7 +636,8 @@ no_deep (word n e) v = v
 
 deep_form : (d : ℕ) (below : Reader Expr) → IsForm expr_tokens (Fits d) after_expr below
     → IsForm expr_tokens (IsDeep d) after_expr (deeper d (either (is_mark (codes "(")) (group_at below) (cat_at below)))
-deep_form zero below held = same_form expr_tokens (IsDeep zero) (λ x v. refl) (λ x v. absurd v) no_deep (none_form expr_tokens after_expr)
+deep_form zero below held =
+    same_form expr_tokens (IsDeep zero) (λ x v. refl) (λ x v. absurd v) no_deep (none_form expr_tokens after_expr)
 deep_form (suc d) below held =
     either_form expr_tokens (IsGroup (suc d)) (IsCat (suc d)) (IsDeep (suc d)) (is_mark (codes "(")) after_expr (group_at below) (cat_at below)
     (group_deep (suc d)) (cat_deep (suc d)) (deep_split (suc d)) (group_leads (suc d)) (λ x front r w e m. leads_not (is_mark (codes "(")) (expr_tokens x) front r (cat_leads (suc d) x w) e)
@@ -714,5 +720,6 @@ level_form d below held =
 
 pub expr_form : (d : ℕ) → IsForm expr_tokens (Fits d) after_expr (expr_at d)
 unfolding expr_at
-expr_form zero = same_form expr_tokens (Fits zero) (λ x v. refl) (λ x v. v) (λ x v. v) (none_form expr_tokens after_expr)
+expr_form zero =
+    same_form expr_tokens (Fits zero) (λ x v. refl) (λ x v. v) (λ x v. v) (none_form expr_tokens after_expr)
 expr_form (suc d) = level_form d (expr_at d) (expr_form d)

@@ -83,7 +83,9 @@ both_true false b e = absurd cc
 
 pub right_marks : (ms : List (List ℕ)) → are_marks ms ≡ true → AreTokens (map mark ms)
 right_marks [] e = tt
-right_marks (m ∷ ms) e = let k = both_true (is_mark_text m) (are_marks ms) e in (holds (is_mark_text m) k.0, right_marks ms k.1)
+right_marks (m ∷ ms) e =
+    let k = both_true (is_mark_text m) (are_marks ms) e in
+    (holds (is_mark_text m) k.0, right_marks ms k.1)
 
 -- ---- what may follow, and what stands at the front
 
@@ -163,7 +165,8 @@ pub record At {X : Type 0} (s : X → List Token) (V : X → Type 0) (p : Reader
 
 -- of one value, before what may follow
 abbrev pub Again : {X : Type 0} → (X → List Token) → (Token → Bool) → Reader X → X → Type 0
-Again s f p x = (front r : List Placed) → AreTokens (s x) → text_of front ≡ s x → MayFollow f r → p (front ++ r) ≡ Ok (x, r)
+Again s f p x =
+    (front r : List Placed) → AreTokens (s x) → text_of front ≡ s x → MayFollow f r → p (front ++ r) ≡ Ok (x, r)
 
 pub record IsForm {X : Type 0} (s : X → List Token) (V : X → Type 0) (f : Token → Bool) (p : Reader X) : Type 0 where
   pub at : (ts : List Placed) → At s V p ts
@@ -208,7 +211,8 @@ one_found f tok V to (t ∷ ts) x r e =
 
 one_fails : {X : Type 0} (f : Token → Option X) (s : X → List Token) (V : X → Type 0) (ts : List Placed) (n : ℕ)
     → one f ts ≡ Err n → Failed s V (one f) ts n
-one_fails f s V [] n e = record { before = []; after = []; parts = refl; place = cc; viable = inl refl; dead = λ r' a. elim r' as (λ us. Alike [] us → one f us ≡ Err n) [ [] ↦ λ _. e | u ∷ us ↦ λ h. absurd h ] a }
+one_fails f s V [] n e =
+    record { before = []; after = []; parts = refl; place = cc; viable = inl refl; dead = λ r' a. elim r' as (λ us. Alike [] us → one f us ≡ Err n) [ [] ↦ λ _. e | u ∷ us ↦ λ h. absurd h ] a }
 one_fails f s V (t ∷ ts) n e =
     let k = picked_err (f t.token) t.left n ts e in
     let is : f t.token ≡ None = k.0 in
@@ -276,7 +280,8 @@ both_at s V t W p k ts example one then = record {
         spelled = text_append a.front b.front ∙ cc (a.spelled, b.spelled);
         valid = (a.valid, b.valid);
         alike = λ r' alike.
-            let near : Alike c.0 (b.front ++ r') = subst (λ us. Alike us (b.front ++ r')) (sym b.parts) (alike_behind b.front r r' alike) in
+            let near : Alike c.0 (b.front ++ r') =
+            subst (λ us. Alike us (b.front ++ r')) (sym b.parts) (alike_behind b.front r r' alike) in
             let again : p (a.front ++ (b.front ++ r')) ≡ Ok (xy.0, b.front ++ r') = a.alike (b.front ++ r') near in
             rw (append_assoc a.front b.front r', again, b.alike r' alike) refl;
       };
@@ -291,7 +296,8 @@ both_at s V t W p k ts example one then = record {
           viable = elim a.viable [
             | inl none ↦ inl none
             | inr c ↦ inr (
-                let total : AreTokens (s c.value) = subst AreTokens c.parts (right_append (text_of a.before) c.rest (right_front (text_of a.before) (text_of a.after) (subst AreTokens (ap text_of a.parts ∙ text_append a.before a.after) right)) c.right) in
+                let total : AreTokens (s c.value) =
+                subst AreTokens c.parts (right_append (text_of a.before) c.rest (right_front (text_of a.before) (text_of a.after) (subst AreTokens (ap text_of a.parts ∙ text_append a.before a.after) right)) c.right) in
                 let ex = example c.value c.valid total in
                 record {
                   value = (c.value, ex.value);
@@ -307,7 +313,8 @@ both_at s V t W p k ts example one then = record {
         let x = c.0 in
         let m = c.1 in
         let a = one.found x m c.2 in
-        let split : AreTokens (text_of a.front ++ text_of m) = subst AreTokens (ap text_of a.parts ∙ text_append a.front m) right in
+        let split : AreTokens (text_of a.front ++ text_of m) =
+        subst AreTokens (ap text_of a.parts ∙ text_append a.front m) right in
         let right_a : AreTokens (s x) = subst AreTokens a.spelled (right_front (text_of a.front) (text_of m) split) in
         let b = (then x m c.2).fails n (right_rest (text_of a.front) (text_of m) split) c.3 in
         record {
@@ -328,8 +335,10 @@ both_at s V t W p k ts example one then = record {
                 parts = ap (λ us. us ++ ends.rest) (text_append a.front b.before) ∙ append_assoc (text_of a.front) (text_of b.before) ends.rest ∙ cc (a.spelled, ends.parts);
               });
           dead = λ after' alike.
-              let near : Alike m (b.before ++ after') = subst (λ us. Alike us (b.before ++ after')) (sym b.parts) (alike_behind b.before b.after after' alike) in
-              let again : p (a.front ++ (b.before ++ after')) ≡ Ok (x, b.before ++ after') = a.alike (b.before ++ after') near in
+              let near : Alike m (b.before ++ after') =
+              subst (λ us. Alike us (b.before ++ after')) (sym b.parts) (alike_behind b.before b.after after' alike) in
+              let again : p (a.front ++ (b.before ++ after')) ≡ Ok (x, b.before ++ after') =
+              a.alike (b.before ++ after') near in
               rw (append_assoc a.front b.before after', again, b.dead after' alike) refl;
         }
   ];
@@ -343,7 +352,8 @@ pub both_again : {X Y : Type 0} (s : X → List Token) (t : X → Y → List Tok
 unfolding both
 both_again s t g f p k x y one then follows front r right e m =
     let c = cut front (s x) (t x y) e in
-    let a : p (c.fore ++ (c.hind ++ r)) ≡ Ok (x, c.hind ++ r) = one c.fore (c.hind ++ r) (right_front (s x) (t x y) right) c.first (follows c.hind r c.second m) in
+    let a : p (c.fore ++ (c.hind ++ r)) ≡ Ok (x, c.hind ++ r) =
+    one c.fore (c.hind ++ r) (right_front (s x) (t x y) right) c.first (follows c.hind r c.second m) in
     let b = then c.hind r (right_rest (s x) (t x y) right) c.second m in
     rw (c.parts, append_assoc c.fore c.hind r, a, b) refl
 
@@ -504,7 +514,8 @@ none_form s f = record {
 -- a stronger condition on what follows
 pub narrow_form : {X : Type 0} (s : X → List Token) (V : X → Type 0) (f : Token → Bool) (p : Reader X)
     → IsForm s V any p → IsForm s V f p
-narrow_form s V f p one = record { at = one.at; again = λ x v front r right e m. one.again x v front r right e (any_follows r) }
+narrow_form s V f p one =
+    record { at = one.at; again = λ x v front r right e m. one.again x v front r right e (any_follows r) }
 
 -- ---- as many as there are, and what closes them
 
@@ -583,7 +594,8 @@ until_at : {X Y : Type 0} (s : X → List Token) (V : X → Type 0) (t : Y → L
     → (n : ℕ) (ts : List Placed) → length ts < n → At (s_until s t) (V_until V W) (until c p q) ts
 until_at s V t W c p q leads at last example zero ts l = absurd (omega arith)
 until_at {X} {Y} s V t W c p q leads at last example (suc n) ts l =
-    let rest : Example (s_until s t) (V_until V W) = record { value = ([], example.value); valid = (tt, example.valid); right = example.right } in
+    let rest : Example (s_until s t) (V_until V W) =
+    record { value = ([], example.value); valid = (tt, example.valid); right = example.right } in
     let more : At (s_until s t) (V_until V W) (made cons_of (both p (λ x. until c p q))) ts =
     made_at (s2 s (λ x. s_until s t)) (V2 V (λ x. V_until V W)) (s_until s t) (V_until V W) cons_of (both p (λ x. until c p q)) ts
     (λ x v. append_assoc (s x.0) (each s x.1.0) (t x.1.1)) (λ x v. ((v.0, v.1.0), v.1.1))
@@ -615,13 +627,16 @@ until_again s V t W c g f p q leads ends follows goes one last (x ∷ xs) y vs w
     let regroup = append_assoc (s x) (each s xs) (t y) in
     let k = cut front (s x) (each s xs ++ t y) (e ∙ regroup) in
     let right' : AreTokens (s x ++ (each s xs ++ t y)) = subst AreTokens regroup right in
-    let rest : until c p q (k.hind ++ r) ≡ Ok ((xs, y), r) = until_again s V t W c g f p q leads ends follows goes one last xs y vs.1 w k.hind r (right_rest (s x) (each s xs ++ t y) right') k.second m in
+    let rest : until c p q (k.hind ++ r) ≡ Ok ((xs, y), r) =
+    until_again s V t W c g f p q leads ends follows goes one last xs y vs.1 w k.hind r (right_rest (s x) (each s xs ++ t y) right') k.second m in
     let follow : MayFollow g (k.hind ++ r) = elim xs as (λ zs. AllByRecursion V zs → text_of k.hind ≡ each s zs ++ t y → MayFollow g (k.hind ++ r)) [
       | [] ↦ λ _ h. leads_follow g (t y) k.hind r (follows y w) h
       | z ∷ zs ↦ λ u h. leads_follow g ((s z ++ each s zs) ++ t y) k.hind r (leads_on c g (s z) (each s zs) (t y) goes (leads z u.0)) h
     ] vs.1 k.second in
-    let here : p (k.fore ++ (k.hind ++ r)) ≡ Ok (x, k.hind ++ r) = one.again x vs.0 k.fore (k.hind ++ r) (right_front (s x) (each s xs ++ t y) right') k.first follow in
-    let h : next_passes c (k.fore ++ (k.hind ++ r)) ≡ true = leads_passes c (s x) k.fore (k.hind ++ r) (leads x vs.0) k.first in
+    let here : p (k.fore ++ (k.hind ++ r)) ≡ Ok (x, k.hind ++ r) =
+    one.again x vs.0 k.fore (k.hind ++ r) (right_front (s x) (each s xs ++ t y) right') k.first follow in
+    let h : next_passes c (k.fore ++ (k.hind ++ r)) ≡ true =
+    leads_passes c (s x) k.fore (k.hind ++ r) (leads x vs.0) k.first in
     until_step s V c p q leads one.at (front ++ r) ∙ rw (k.parts, append_assoc k.fore k.hind r, h, here, rest) refl
 
 pub until_form : {X Y : Type 0} (s : X → List Token) (V : X → Type 0) (t : Y → List Token) (W : Y → Type 0)

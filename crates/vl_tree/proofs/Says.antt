@@ -167,7 +167,8 @@ abbrev IsWordText : List ℕ → Type 0
 IsWordText w = (is_name w ≡ false) × (all_digits 10 w ≡ false)
 
 word_is : (r : List ℕ) → is_word r ≡ true → IsWordText r
-word_is r e = among r words IsWordText ((refl, refl), ((refl, refl), ((refl, refl), ((refl, refl), ((refl, refl), ((refl, refl), ((refl, refl), ((refl, refl), ((refl, refl), ((refl, refl), ((refl, refl), ((refl, refl), ((refl, refl), ((refl, refl), tt)))))))))))))) e
+word_is r e =
+    among r words IsWordText ((refl, refl), ((refl, refl), ((refl, refl), ((refl, refl), ((refl, refl), ((refl, refl), ((refl, refl), ((refl, refl), ((refl, refl), ((refl, refl), ((refl, refl), ((refl, refl), ((refl, refl), ((refl, refl), tt)))))))))))))) e
 
 name_no_word : (r : List ℕ) → is_name r ≡ true → is_word r ≡ false
 name_no_word r e = elim (is_word r) as (λ t. is_word r ≡ t → t ≡ false) [ true ↦ λ is. let k = (word_is r is).0 in true_not_false (sym e ∙ k) | false ↦ λ is. refl ] refl
@@ -180,7 +181,8 @@ digits_no_word r e = elim (is_word r) as (λ t. is_word r ≡ t → t ≡ false)
 name_runs : (b : ℕ) (bs : List ℕ) → is_name (b ∷ bs) ≡ true → (is_letter b ≡ true) × (list_all is_run bs ≡ true)
 name_runs b bs e =
     let k4 = and_true (is_letter b) (is_name_rest bs) e in
-    let k3 = and_true (list_all is_run bs && ltb (length bs) 64 && list_any (λ c. eqb c 95) bs) (list_any is_ascii_digit bs) k4.1 in
+    let k3 =
+    and_true (list_all is_run bs && ltb (length bs) 64 && list_any (λ c. eqb c 95) bs) (list_any is_ascii_digit bs) k4.1 in
     let k2 = and_true (list_all is_run bs && ltb (length bs) 64) (list_any (λ c. eqb c 95) bs) k3.0 in
     let k1 = and_true (list_all is_run bs) (ltb (length bs) 64) k2.0 in
     (k4.0, k1.0)
@@ -244,7 +246,8 @@ plain_says_of (d ∷ ds) v some short all is =
     let some' : ltb 0 (length (d ∷ ds)) ≡ true = lt-ltb 0 (length (d ∷ ds)) some in
     let short' : ltb (length (d ∷ ds)) 10 ≡ true = lt-ltb (length (d ∷ ds)) 10 (omega arith) in
     let all' : all_digits 10 (d ∷ ds) ≡ true = r.1 in
-    let plain' : is_plain (d ∷ ds) ≡ true = three (all_digits 10 (d ∷ ds)) (ltb 0 (length (d ∷ ds))) (ltb (length (d ∷ ds)) 10) all' some' short' in
+    let plain' : is_plain (d ∷ ds) ≡ true =
+    three (all_digits 10 (d ∷ ds)) (ltb 0 (length (d ∷ ds))) (ltb (length (d ∷ ds)) 10) all' some' short' in
     piece_says Open d ds (plain v) (runs_text (d ∷ ds) r.0) (λ rest o.
     run_piece d ds rest k.0 k.1 r.0 o
     ∙ fourth (is_word (d ∷ ds)) (is_name (d ∷ ds)) (next_is 39 rest) (is_plain (d ∷ ds)) (piece (mark (d ∷ ds)) (length (d ∷ ds))) (piece (name (d ∷ ds)) (length (d ∷ ds))) (sized_at (d ∷ ds) (run_of (drop 1 rest)) (after_run (drop 1 rest))) (piece (plain (digits_value 10 (d ∷ ds))) (length (d ∷ ds))) None
@@ -323,11 +326,13 @@ sized_says_of (d ∷ ws) ds allw some alld width value =
     let quote : list_all is_text_byte (39 ∷ (100 ∷ ds)) ≡ true = runs_text ds q.0 in
     let behind : list_all is_run (100 ∷ ds) ≡ true = q.0 in
     piece_says Open d (ws ++ (39 ∷ (100 ∷ ds))) (sized (digits_value 10 (d ∷ ws)) (digits_value 10 ds)) (all_append is_text_byte (d ∷ ws) (39 ∷ (100 ∷ ds)) (runs_text (d ∷ ws) r.0) quote) (λ rest o.
-    let regroup : d ∷ ((ws ++ (39 ∷ (100 ∷ ds))) ++ rest) ≡ d ∷ (ws ++ (39 ∷ (100 ∷ (ds ++ rest)))) = ap (λ bs. d ∷ bs) (append_assoc ws (39 ∷ (100 ∷ ds)) rest) in
+    let regroup : d ∷ ((ws ++ (39 ∷ (100 ∷ ds))) ++ rest) ≡ d ∷ (ws ++ (39 ∷ (100 ∷ (ds ++ rest)))) =
+    ap (λ bs. d ∷ bs) (append_assoc ws (39 ∷ (100 ∷ ds)) rest) in
     let after : List ℕ = 39 ∷ (100 ∷ (ds ++ rest)) in
     let front : run_of (100 ∷ (ds ++ rest)) ≡ 100 ∷ ds = run_front (100 ∷ ds) rest behind o in
     let last : after_run (100 ∷ (ds ++ rest)) ≡ rest = after_front (100 ∷ ds) rest behind o in
-    let count : length (d ∷ ws) + length ds + 2 ≡ length (ws ++ (39 ∷ (100 ∷ ds))) + 1 = omega (arith, length-append ws (39 ∷ (100 ∷ ds))) in
+    let count : length (d ∷ ws) + length ds + 2 ≡ length (ws ++ (39 ∷ (100 ∷ ds))) + 1 =
+    omega (arith, length-append ws (39 ∷ (100 ∷ ds))) in
     ap piece_at regroup ∙ quoted_piece d ws (100 ∷ (ds ++ rest)) k.0 k.1 r.0
     ∙ fifth (is_word (d ∷ ws)) (is_name (d ∷ ws)) (next_is 39 after) (piece (mark (d ∷ ws)) (length (d ∷ ws))) (piece (name (d ∷ ws)) (length (d ∷ ws))) (sized_at (d ∷ ws) (run_of (100 ∷ (ds ++ rest))) (after_run (100 ∷ (ds ++ rest)))) (cond (is_plain (d ∷ ws)) (piece (plain (digits_value 10 (d ∷ ws))) (length (d ∷ ws))) None)
     (digits_no_word (d ∷ ws) r.1) (no_name d ws k.4) refl
@@ -342,9 +347,11 @@ sized_says w v pos small value wide =
     let nv = decimal_is_IsNumeral v wide in
     let wis : digits_value 10 (decimal w) ≡ w = nw.1 in
     let vis : digits_value 10 (decimal v) ≡ v = nv.1 in
-    let width : is_width (decimal w) ≡ true = width_is (decimal w) nw.0.1 nw.0.0 (length-decimal-le 2 w (omega arith) (omega arith) ww) (first_decimal w pos ww) (omega (arith, wis)) in
+    let width : is_width (decimal w) ≡ true =
+    width_is (decimal w) nw.0.1 nw.0.0 (length-decimal-le 2 w (omega arith) (omega arith) ww) (first_decimal w pos ww) (omega (arith, wis)) in
     let below : digits_value 10 (decimal v) < 2 ^ w = omega (arith, vis) in
-    let good : is_value (digits_value 10 (decimal w)) 10 (decimal v) ≡ true = subst (λ x. is_value x 10 (decimal v) ≡ true) (sym wis) (value_is w (decimal v) nv.0.1 nv.0.0 (length-decimal-le 20 v (omega arith) (omega arith) wide) below) in
+    let good : is_value (digits_value 10 (decimal w)) 10 (decimal v) ≡ true =
+    subst (λ x. is_value x 10 (decimal v) ≡ true) (sym wis) (value_is w (decimal v) nv.0.1 nv.0.0 (length-decimal-le 20 v (omega arith) (omega arith) wide) below) in
     let all = sized_says_of (decimal w) (decimal v) nw.0.1 nw.0.0 nv.0.1 width good in
     subst (λ (x : ℕ). Says Open (decimal w ++ (codes "'d" ++ decimal v)) (sized w x ∷ [])) vis (subst (λ (x : ℕ). Says Open (decimal w ++ (codes "'d" ++ decimal v)) (sized x (digits_value 10 (decimal v)) ∷ [])) wis all)
 

@@ -46,13 +46,15 @@ pub then_any : {X Y : Type 0} {s : X → List Token} {V : X → Type 0} {t : X �
     {f : Token → Bool} {p : Reader X} {k : X → Reader Y}
     → IsForm s V any p → ((x : X) → IsForm (t x) (W x) f (k x))
     → ((x : X) → V x → AreTokens (s x) → Example (t x) (W x)) → IsForm (s2 s t) (V2 V W) f (both p k)
-then_any {s = s} {V = V} {t = t} {W = W} {f = f} {p = p} {k = k} one then example = both_form s V t W any f p k one then example (λ x y front r v w e m. any_follows (front ++ r))
+then_any {s = s} {V = V} {t = t} {W = W} {f = f} {p = p} {k = k} one then example =
+    both_form s V t W any f p k one then example (λ x y front r v w e m. any_follows (front ++ r))
 
 pub then_led : {X Y : Type 0} {s : X → List Token} {V : X → Type 0} {t : X → Y → List Token} {W : X → Y → Type 0}
     {g f : Token → Bool} {p : Reader X} {k : X → Reader Y}
     → IsForm s V g p → ((x : X) → IsForm (t x) (W x) f (k x)) → ((x : X) → V x → AreTokens (s x) → Example (t x) (W x))
     → ((x : X) (y : Y) → V x → W x y → Leads g (t x y)) → IsForm (s2 s t) (V2 V W) f (both p k)
-then_led {s = s} {V = V} {t = t} {W = W} {g = g} {f = f} {p = p} {k = k} one then example leads = both_form s V t W g f p k one then example (λ x y front r v w e m. leads_follow g (t x y) front r (leads x y v w) e)
+then_led {s = s} {V = V} {t = t} {W = W} {g = g} {f = f} {p = p} {k = k} one then example leads =
+    both_form s V t W g f p k one then example (λ x y front r v w e m. leads_follow g (t x y) front r (leads x y v w) e)
 
 -- ---- words and symbols
 
@@ -84,7 +86,8 @@ later m ms e = elim (is_mark_text m) as (λ b. (b && are_marks ms) ≡ true → 
 pub phrase_of_form : (ms : List (List ℕ)) → are_marks ms ≡ true
     → IsForm (λ (u : Unit {0}). map mark ms) all_values any (phrase_of ms)
 unfolding phrase_of nothing
-phrase_of_form [] known = same_form (λ (u : Unit {0}). []) all_values (λ x v. refl) (λ x v. tt) (λ x v. refl) (nothing_form (λ (u : Unit {0}). []) any tt refl)
+phrase_of_form [] known =
+    same_form (λ (u : Unit {0}). []) all_values (λ x v. refl) (λ x v. tt) (λ x v. refl) (nothing_form (λ (u : Unit {0}). []) any tt refl)
 phrase_of_form (m ∷ ms) known =
     made_form (s2 (λ (u : Unit {0}). mark m ∷ []) (λ u (w : Unit {0}). map mark ms)) (V2 all_values (λ u. all_values)) (λ (u : Unit {0}). map mark (m ∷ ms)) all_values any (λ x. tt) (both (one (the_mark m)) (λ x. phrase_of ms))
     (λ x v. refl) (λ x v. tt) (λ y v. ((tt, tt), (tt, tt), refl))
