@@ -24,7 +24,8 @@ start-is : (w : Wheel) (p : Plan) (n t port : ℕ) (s : PortSlots) → Stands w 
     → s ≡ slice_index_or w.starts.items port s → s ≡ port_slots p n port
 start-is w p n t port s stands there is =
     let count = wheel_ports-is w p n t stands in
-    is ∙ ap (λ l. slice_index_or l port s) stands.links ∙ get_or-map-range_with_len (port_slots p n) 0 (ports p) port port s (omega (arith, count, there)) (omega arith)
+    is ∙ ap (λ l. slice_index_or l port s) stands.links
+    ∙ get_or-map-range_with_len (port_slots p n) 0 (ports p) port port s (omega (arith, count, there)) (omega arith)
 
 -- the owner of a port's slot, by the plan's list
 owner-is : (w : Wheel) (p : Plan) (n t start r : ℕ) (xs : List ℕ) → Stands w p n t → xs ≡ w.slots.items
@@ -43,8 +44,10 @@ pub leaving-is : (w : Wheel) (p : Plan) (n t m port : ℕ) (s : PortSlots) (r : 
     → r ≡ slice_index xs ((s.leaving + w.phase) % length xs)
     → r ≡ owner p n port (pos t)
 leaving-is w p n t m port s r xs stands here there link same at is =
-    let start : s.leaving ≡ slot_of p n (pos 0) (way_of port) = ap (λ (x : PortSlots). x.leaving) (start-is w p n t port s stands there at) in
-    owner-is w p n t s.leaving r xs stands same is ∙ ap (λ z. slice_index p.slots ((z + t % length p.slots) % length p.slots)) start
+    let start : s.leaving ≡ slot_of p n (pos 0) (way_of port) =
+    ap (λ (x : PortSlots). x.leaving) (start-is w p n t port s stands there at) in
+    owner-is w p n t s.leaving r xs stands same is
+    ∙ ap (λ z. slice_index p.slots ((z + t % length p.slots) % length p.slots)) start
     ∙ owner-leaving p n port t (linked-port p n port m link) (some-slots w p n t stands here)
 
 pub arriving-is : (w : Wheel) (p : Plan) (n t m port : ℕ) (s : PortSlots) (r : ℕ) (xs : List ℕ) → Stands w p n t
@@ -53,8 +56,10 @@ pub arriving-is : (w : Wheel) (p : Plan) (n t m port : ℕ) (s : PortSlots) (r :
     → r ≡ slice_index xs ((s.arriving + w.phase) % length xs)
     → r ≡ owner p m (opposite port) (pos t -ℤ pos p.stages)
 arriving-is w p n t m port s r xs stands here there link same at is =
-    let start : s.arriving ≡ slot_of p m (pos 0 -ℤ pos p.stages) (way_of (opposite port)) = ap (λ (x : PortSlots). x.arriving) (start-is w p n t port s stands there at) ∙ ap (arriving_from p port) link in
-    owner-is w p n t s.arriving r xs stands same is ∙ ap (λ z. slice_index p.slots ((z + t % length p.slots) % length p.slots)) start
+    let start : s.arriving ≡ slot_of p m (pos 0 -ℤ pos p.stages) (way_of (opposite port)) =
+    ap (λ (x : PortSlots). x.arriving) (start-is w p n t port s stands there at) ∙ ap (arriving_from p port) link in
+    owner-is w p n t s.arriving r xs stands same is
+    ∙ ap (λ z. slice_index p.slots ((z + t % length p.slots) % length p.slots)) start
     ∙ owner-arriving p m port t p.stages (linked-port p n port m link) (some-slots w p n t stands here)
 
 -- the next cycle

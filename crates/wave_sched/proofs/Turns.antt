@@ -58,10 +58,12 @@ pub before-plus : (p : Plan) (n ago i period h w r : ℕ) → period ≡ length 
     → r ≡ (0 % period + (period - (ago + h * w) % period)) % period → r ≡ slot_of p n (pos 0 -ℤ pos ago) (Plus i)
 before-plus p n ago i period h w r turns some hops waves is =
     let x : h * w ≡ hop p * wave p n = cc in
-    let e : (pos 0 -ℤ pos ago) -ℤ pos (hop p * wave p n) ≡ pos 0 -ℤ pos (ago + hop p * wave p n) = omega (arith, ints) in
+    let e : (pos 0 -ℤ pos ago) -ℤ pos (hop p * wave p n) ≡ pos 0 -ℤ pos (ago + hop p * wave p n) =
+    omega (arith, ints) in
     is ∙ ap (λ k. (0 % k + (k - (ago + h * w) % k)) % k) turns
     ∙ ap (λ y. (0 % length p.slots + (length p.slots - (ago + y) % length p.slots)) % length p.slots) x
-    ∙ sym (modulo-earlier (length p.slots) 0 (ago + hop p * wave p n) some) ∙ sym (ap (λ y. modulo y (length p.slots)) e)
+    ∙ sym (modulo-earlier (length p.slots) 0 (ago + hop p * wave p n) some)
+    ∙ sym (ap (λ y. modulo y (length p.slots)) e)
 
 two-mods : (k x y : ℕ) → (x % k + y % k) % k ≡ (x + y) % k
 two-mods k x y =
@@ -75,8 +77,10 @@ pub before-minus : (p : Plan) (n ago i period h w c r : ℕ) → period ≡ leng
     → r ≡ slot_of p n (pos 0 -ℤ pos ago) (Minus i)
 before-minus p n ago i period h w c r turns some hops waves was is =
     let x : h * w ≡ hop p * wave p n = cc in
-    let y : c ≡ modulo (pos 0 -ℤ pos ago) (length p.slots) = was ∙ ap (λ k. (0 % k + (k - ago % k)) % k) turns ∙ sym (modulo-earlier (length p.slots) 0 ago some) in
-    is ∙ two-mods period c (h * w) ∙ ap (λ k. (c + h * w) % k) turns ∙ ap (λ v. (c + v) % length p.slots) x ∙ ap (λ v. (v + hop p * wave p n) % length p.slots) y
+    let y : c ≡ modulo (pos 0 -ℤ pos ago) (length p.slots) =
+    was ∙ ap (λ k. (0 % k + (k - ago % k)) % k) turns ∙ sym (modulo-earlier (length p.slots) 0 ago some) in
+    is ∙ two-mods period c (h * w) ∙ ap (λ k. (c + h * w) % k) turns ∙ ap (λ v. (c + v) % length p.slots) x
+    ∙ ap (λ v. (v + hop p * wave p n) % length p.slots) y
     ∙ sym (modulo-more (length p.slots) (hop p * wave p n) (pos 0 -ℤ pos ago) some)
 
 -- ---- owners
