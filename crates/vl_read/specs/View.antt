@@ -23,7 +23,7 @@ token_in (Some t) = Some (token_of t)
 abbrev pub piece_of : Piece → tokens.Piece
 piece_of p = record { token = token_in p.token; len = p.len }
 
--- the next token, from whose first byte on left bytes are left, and then the tokens of the bytes behind it: none where
+-- the next token, from whose first byte on n bytes are left, and then the tokens of the bytes behind it: none where
 -- there is no next one
 abbrev pub placed_of : Option Token → ℕ → List ℕ → List Placed
 placed_of None n bytes = []
