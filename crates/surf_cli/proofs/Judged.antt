@@ -1,5 +1,5 @@
 -- What a description says, from what its parts say.
-use Rattle.std.proofs.Common.{◌≡◌, inl, inr, ℕ, List, ap, sym, ◌∙◌}
+use Rattle.std.proofs.Common.{◌≡◌, inl, inr, ℕ, List, refl, ap, sym, subst, ◌∙◌}
 use Rattle.std.specs.Prelude.{Some, None}
 use Rattle.noc_model.specs.Plan.{Plan}
 use Rattle.noc_desc.specs.Draft as table
@@ -10,7 +10,8 @@ use Rattle.desc_check.specs.Network.{plan_of_draft}
 use Rattle.desc_check.specs.Accepted.{first_fault}
 use Rattle.surf_cli.specs.declared.statuses.End.{End}
 use Rattle.surf_cli.specs.declared.refusals.Refusal.TheVariants.{Description}
-use Rattle.surf_cli.specs.Meaning.{Outcome, Faulty, Described, judged, judged_draft, judged_plan, with_judged, with_plan}
+use Rattle.surf_cli.specs.declared.statuses.End.TheVariants.{Refused}
+use Rattle.surf_cli.specs.Meaning.{Outcome, Stops, Halts, Faulty, Described, judged, judged_draft, judged_plan, with_judged, with_plan}
 use Rattle.surf_cli.specs.Answers.{EndsFor, IsRefused}
 
 -- the table has a fault
@@ -35,9 +36,13 @@ pub plan-read : (bytes : List ℕ) (d : Draft) (p : Plan) → draft_of bytes ≡
     → (next : Plan → Outcome) → with_plan bytes next ≡ next p
 plan-read bytes d p e clean good is next = ap (λ j. with_judged j next) (judged-described bytes d p e clean good is)
 
+-- a command that stops ends so
+pub halts : (m : Outcome) (end : End) → m ≡ Stops end → Halts m end
+halts m end e = subst (λ o. Halts o end) (sym e) refl
+
 -- how a run ends that meets this fault
 pub plan-refused : (bytes : List ℕ) (f : DescFault) (end : End) → EndsFor f end → ((IsMemory f → ⊥) → judged bytes ≡ Faulty f)
     → (next : Plan → Outcome) → IsRefused (with_plan bytes next) end
 plan-refused bytes f end (inl e) h next = inl e
 plan-refused bytes f end (inr e) h next =
-    inr record { refusal = Description f; of_contents = e.0; is = e.1; meant = ap (λ j. with_judged j next) (h e.0) }
+    inr record { refusal = Description f; of_contents = e.0; is = e.1; meant = halts _ (Refused (Description f)) (ap (λ j. with_judged j next) (h e.0)) }

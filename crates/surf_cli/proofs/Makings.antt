@@ -14,12 +14,12 @@ use Rattle.desc_check.specs.Accepted.{first_fault}
 use Rattle.desc_check.specs.Upgrade.{upgrade_of}
 use Rattle.surf_cli.specs.Jobs.{Simulate, Upgrade}
 use Rattle.surf_cli.specs.Simulate.{reports_text}
-use Rattle.surf_cli.specs.Meaning.{Outcome, Does, Exactly, UpgradeOf, Judged, Described, judged_plan, judged_draft, judged, with_plan, with_trace, over}
-use Rattle.surf_cli.specs.Answers.{Makes, IsRefused}
+use Rattle.surf_cli.specs.Meaning.{Outcome, Makes, Does, Exactly, UpgradeOf, Judged, Described, judged_plan, judged_draft, judged, with_plan, with_trace, over}
+use Rattle.surf_cli.specs.Answers.{IsRefused}
 
 -- the bytes are exactly those that are to be written
 pub Makes-exactly : (m : Outcome) (right bytes : List ℕ) → m ≡ Does (Exactly right) → bytes ≡ right → Makes m bytes
-Makes-exactly m right bytes e is = record { work = Exactly right; meant = e; right = is }
+Makes-exactly m right bytes e is = subst (λ o. Makes o bytes) (sym e) is
 
 -- ---- a simulation
 
@@ -76,8 +76,5 @@ pub upgrade-made : (held : Contents) (description bytes : List ℕ) (p : Plan) �
 upgrade-made held description bytes p e plan written =
     let document-is = written.has_table ∙ ap (λ d. Some (document d)) written.is in
     let judged-is = judged-again bytes written.draft p written.no_fault written.reads_back written.accepted written.same_plan in
-    record {
-      work = UpgradeOf p;
-      meant = ap (λ d. with_plan d (λ q. Does (UpgradeOf q))) (sym e) ∙ plan (λ q. Does (UpgradeOf q));
-      right = (document-is, judged-is);
-    }
+    let meant = ap (λ d. with_plan d (λ q. Does (UpgradeOf q))) (sym e) ∙ plan (λ q. Does (UpgradeOf q)) in
+    subst (λ o. Makes o bytes) (sym meant) (document-is, judged-is)

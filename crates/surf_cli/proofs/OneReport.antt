@@ -9,8 +9,9 @@ use Rattle.surf_cli.specs.declared.refusals.Refusal.TheVariants.{NoDomain}
 use Rattle.surf_cli.specs.Contents.{Contents}
 use Rattle.surf_cli.specs.Jobs.{Report}
 use Rattle.surf_cli.specs.Simulate.{report_text}
-use Rattle.surf_cli.specs.Meaning.{Outcome, Does, Exactly, if_found, with_plan, with_domain, with_trace, over}
-use Rattle.surf_cli.specs.Answers.{Makes, IsRefused}
+use Rattle.surf_cli.specs.Meaning.{Outcome, Makes, Does, Exactly, if_found, with_plan, with_domain, with_trace, over}
+use Rattle.surf_cli.specs.Answers.{IsRefused}
+use Rattle.surf_cli.proofs.Judged.{halts}
 use Rattle.surf_cli.proofs.Makings.{Makes-exactly}
 
 -- the domain that was found
@@ -21,7 +22,7 @@ domain-found p name r found next = ap (λ x. if_found x next) (sym found)
 -- none was found
 pub domain-absent : (p : Plan) (name : List ℕ) (next : ℕ → Outcome) → with_domain p name next ≡ if_found None next
     → IsRefused (with_domain p name next) (Refused NoDomain)
-domain-absent p name next e = inr record { refusal = NoDomain; of_contents = tt; is = refl; meant = e }
+domain-absent p name next e = inr record { refusal = NoDomain; of_contents = tt; is = refl; meant = halts _ (Refused NoDomain) e }
 
 -- what a report goes on to over a plan and a domain
 abbrev of_domain : Contents → ℕ → Plan → ℕ → Outcome

@@ -14,8 +14,8 @@ use Rattle.surf_cli.specs.Contents.{Contents}
 use Rattle.surf_cli.specs.Jobs.{Replay}
 use Rattle.surf_cli.specs.Simulate.{events_of, reports_of}
 use Rattle.surf_cli.specs.Replay.{AreReplayed, events_replayed, replayed_report, replayed_text}
-use Rattle.surf_cli.specs.Meaning.{Outcome, Does, Exactly, with_plan, with_text, with_trace, over}
-use Rattle.surf_cli.specs.Answers.{Makes, IsRefused}
+use Rattle.surf_cli.specs.Meaning.{Outcome, Makes, Does, Exactly, with_plan, with_text, with_trace, over}
+use Rattle.surf_cli.specs.Answers.{IsRefused}
 use Rattle.surf_cli.proofs.Texts.{texts-same}
 use Rattle.surf_cli.proofs.Makings.{Makes-exactly}
 

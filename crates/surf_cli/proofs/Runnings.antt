@@ -12,9 +12,9 @@ use Rattle.surf_cli.specs.Files.{NamedFile}
 use Rattle.surf_cli.specs.Contents.{nothing}
 use Rattle.surf_cli.specs.Jobs.{Command}
 use Rattle.surf_cli.specs.Lines.{Says, line_of, status_of}
-use Rattle.surf_cli.specs.Meaning.{Outcome, Does, Stops, over, meaning}
-use Rattle.surf_cli.specs.Meaning as meaning_of
-use Rattle.surf_cli.specs.Runs.{Outside, Runs, Completes, HasCause, IsMeant, Delivered}
+use Rattle.surf_cli.specs.Meaning.{Outcome, over, meaning}
+use Rattle.surf_cli.specs.Runs.{Outside, Runs, Completes, HasCause, IsMeant}
+use Rattle.surf_cli.proofs.Judged.{halts}
 use Rattle.surf_cli.specs.Reading.{end_of, StopsAt, IsCause, GotNone}
 
 -- ---- the files were not read
@@ -29,9 +29,10 @@ none-cause files fault.Failed old new some cause = (some, cause)
 none-cause files fault.TooLong old new some cause = cause
 none-cause files (fault.Memory refused) old new some cause = tt
 
-none-meant : (m : Outcome) (f : TakeFault) (old new : Outside) → new.written ≡ old.written → StopsAt m f old.file_faults new.file_faults → IsMeant m (end_of f) old new
-none-meant m fault.Failed old new written stops = (written, stops)
-none-meant m fault.TooLong old new written stops = (written, stops)
+none-meant : (m : Outcome) (f : TakeFault) (old new : Outside) → new.written ≡ old.written
+    → StopsAt m f old.file_faults new.file_faults → IsMeant m (end_of f) old new
+none-meant m fault.Failed old new written stops = (written, elim stops [ inl rose ↦ inl rose | inr e ↦ inr (halts m Read e) ])
+none-meant m fault.TooLong old new written stops = (written, halts m TooLong stops)
 none-meant m (fault.Memory refused) old new written stops = written
 
 -- a command whose files were not read
@@ -52,36 +53,23 @@ Runs-none command f end old new is got written faults =
 
 -- ---- where nothing failed
 
--- a run that stopped has done all that its command means
-stopped : (command : Option Command) (old new : Outside) (end : End) (said said' : Option (List ℕ)) (faults faults' : ℕ) (runs : Runs command old end new)
-    → new.written ≡ old.written → meaning command runs.contents ≡ Stops end → Says (line_of end) said said' faults faults'
-    → Completes command old.held (status_of end) old.written new.written said said' faults faults'
-stopped command old new end said said' faults faults' runs written is line = record {
-  contents = runs.contents;
-  observed = runs.observed;
-  is = ap (λ m. status_of (meaning_of.end_of m)) (sym is);
-  bytes = subst (λ m. Delivered m old.written new.written) (sym is) written;
-  line = subst (λ m. Says (line_of (meaning_of.end_of m)) said said' faults faults') (sym is) line;
-}
-
-complete : (command : Option Command) (old new : Outside) (end : End) (said said' : Option (List ℕ)) (faults faults' : ℕ) → Runs command old end new → Says (line_of end) said said' faults faults'
+complete : (command : Option Command) (old new : Outside) (end : End) (said said' : Option (List ℕ)) (faults faults' : ℕ)
+    → Runs command old end new → Says (line_of end) said said' faults faults'
     → (Rose old.file_faults new.file_faults → ⊥) → (Rose old.faults new.faults → ⊥)
     → (status_of end ≡ ended.Memory) ⊎ Completes command old.held (status_of end) old.written new.written said said' faults faults'
-complete command old new Good said said' faults faults' runs line files sink = inr record {
-  contents = runs.contents;
-  observed = runs.observed;
-  is = ap status_of (sym runs.meant.0);
-  bytes = runs.meant.1;
-  line = subst (λ e. Says (line_of e) said said' faults faults') (sym runs.meant.0) line;
-}
-complete command old new Usage said said' faults faults' runs line files sink = inr (stopped command old new Usage said said' faults faults' runs runs.meant.0 runs.meant.1 line)
-complete command old new (Refused r) said said' faults faults' runs line files sink = inr (stopped command old new (Refused r) said said' faults faults' runs runs.meant.0 runs.meant.1 line)
-complete command old new TooLong said said' faults faults' runs line files sink = inr (stopped command old new TooLong said said' faults faults' runs runs.meant.0 runs.meant.1 line)
+complete command old new Good said said' faults faults' runs line files sink =
+    inr record { contents = runs.contents; observed = runs.observed; end = Good; is = refl; done = runs.meant; line = line }
+complete command old new Usage said said' faults faults' runs line files sink =
+    inr record { contents = runs.contents; observed = runs.observed; end = Usage; is = refl; done = runs.meant; line = line }
+complete command old new (Refused r) said said' faults faults' runs line files sink =
+    inr record { contents = runs.contents; observed = runs.observed; end = Refused r; is = refl; done = runs.meant; line = line }
+complete command old new TooLong said said' faults faults' runs line files sink =
+    inr record { contents = runs.contents; observed = runs.observed; end = TooLong; is = refl; done = runs.meant; line = line }
 complete command old new Memory said said' faults faults' runs line files sink = inl refl
 complete command old new Write said said' faults faults' runs line files sink = absurd (sink runs.cause.0)
 complete command old new Read said said' faults faults' runs line files sink = elim runs.meant.1 [
   | inl rose ↦ absurd (files rose)
-  | inr ends ↦ inr (stopped command old new Read said said' faults faults' runs runs.meant.0 ends line)
+  | inr ends ↦ inr record { contents = runs.contents; observed = runs.observed; end = Read; is = refl; done = (runs.meant.0, ends); line = line }
 ]
 
 -- where nothing failed, memory ran out, or all is done that the command means

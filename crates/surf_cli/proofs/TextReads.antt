@@ -16,10 +16,12 @@ use Rattle.vl_model.specs.Rules.{first_fault}
 use Rattle.vl_rules.specs.Answer.{IsFirstFault}
 use Rattle.gen_kit.specs.Ports.{ports_fault}
 use Rattle.surf_cli.specs.declared.statuses.End.{End}
+use Rattle.surf_cli.specs.declared.statuses.End.TheVariants.{Refused}
 use Rattle.surf_cli.specs.declared.refusals.Refusal.TheVariants.{Text}
 use Rattle.surf_cli.specs.TextRead.{read_tokens, text_read, unless, judged_design, judged_text}
 use Rattle.surf_cli.specs.Meaning.{Outcome, if_sound, with_text}
 use Rattle.surf_cli.specs.Answers.{IsRefused, EndsForText}
+use Rattle.surf_cli.proofs.Judged.{halts}
 
 unless-memory : (f : TextFault) (P : Type 0) → (IsMemory f → ⊥) → MemoryOr f P → P
 unless-memory (Byte n) P told h = h
@@ -206,4 +208,4 @@ text-sound p bytes d s rules ports next = ap (λ r. if_sound r next) (judged-des
 pub text-refused : (p : Plan) (bytes : List ℕ) (f : TextFault) (end : End) → EndsForText f end → ((IsMemory f → ⊥) → judged_text p bytes ≡ Err f)
     → (next : Design → Outcome) → IsRefused (with_text p bytes next) end
 text-refused p bytes f end (inl e) h next = inl e
-text-refused p bytes f end (inr e) h next = inr record { refusal = Text f; of_contents = e.0; is = e.1; meant = ap (λ r. if_sound r next) (h e.0) }
+text-refused p bytes f end (inr e) h next = inr record { refusal = Text f; of_contents = e.0; is = e.1; meant = halts _ (Refused (Text f)) (ap (λ r. if_sound r next) (h e.0)) }

@@ -17,7 +17,7 @@ use Rattle.surf_cli.specs.Accepted.{accepted_text}
 use Rattle.surf_cli.specs.Routes.{routes_text}
 use Rattle.noc_model.specs.Report.{report}
 use Rattle.surf_cli.specs.Simulate.{reports_of, events_of}
-use Rattle.surf_cli.specs.Meaning.{Work, IsRight, Outcome, Does, refuses}
+use Rattle.surf_cli.specs.Meaning.{Outcome, Halts}
 
 -- the bytes of a text that is not written yet
 abbrev pub text_of : Text → List ℕ
@@ -28,18 +28,12 @@ text_of (text.Reports reports) = reports_of reports.plan (events_of reports.even
 text_of (text.Report one) = report one.plan one.domain (events_of one.events one.domain)
 text_of (text.Bytes bytes) = bytes.items
 
--- the bytes are right for what is to be written
-pub record Makes (m : Outcome) (bytes : List ℕ) : Type 0 where
-  pub work : Work
-  pub meant : m ≡ Does work
-  pub right : IsRight work bytes
-
 -- what the files hold is refused
 pub record Refuses (m : Outcome) (end : End) : Type 0 where
   pub refusal : Refusal
   pub of_contents : IsOfContents refusal
   pub is : end ≡ Refused refusal
-  pub meant : m ≡ refuses refusal
+  pub meant : Halts m (Refused refusal)
 
 -- no answer is made: memory ran out, or what the files hold is refused
 abbrev pub IsRefused : Outcome → End → Type 0

@@ -7,7 +7,7 @@ use Rattle.noc_model.specs.Limits.{most_cycles}
 use Rattle.desc_check.specs.Words.{is_name}
 use Rattle.surf_cli.specs.Limits.{table_cycles}
 use Rattle.surf_cli.specs.Files.{NamedFile, file_of}
-use Rattle.surf_cli.specs.Jobs.{Schedule, Check, Routes, Simulate, Report, Upgrade, Replay, Command, command}
+use Rattle.surf_cli.specs.Jobs.{Schedule, Check, Routes, Simulate, Report, Upgrade, Replay, Audit, Command, command}
 
 -- schedule DESC CYCLES
 abbrev pub schedule_words : List (List ℕ) → Option Command
@@ -53,6 +53,12 @@ replay_words (description ∷ text ∷ trace ∷ cycles ∷ []) =
     (decimal_in most_cycles cycles)
 replay_words _ = None
 
+-- audit DESC TEXT
+abbrev pub audit_words : List (List ℕ) → Option Command
+audit_words (description ∷ text ∷ []) =
+    Some (command (file_of Description description ∷ file_of Text text ∷ []) Audit)
+audit_words _ = None
+
 -- the command of a verb and the words after it
 abbrev pub command_by : List ℕ → List (List ℕ) → Option Command
 command_by verb args =
@@ -63,6 +69,7 @@ command_by verb args =
     else if bytes_eq verb (codes "report") then report_words args
     else if bytes_eq verb (codes "upgrade") then upgrade_words args
     else if bytes_eq verb (codes "replay") then replay_words args
+    else if bytes_eq verb (codes "audit") then audit_words args
     else None
 
 -- the command that the words are; nothing where they are no row of the table of commands

@@ -12,6 +12,7 @@ pub data Job : Type 0 where
   Report : (cycles : ℕ) (domain : List ℕ) → Job
   Upgrade : Job
   Replay : (cycles : ℕ) → Job
+  Audit : Job
 
 -- the files that the words name, and what is to be done
 pub record Command : Type 0 where

@@ -5,6 +5,7 @@ pub mod Jobs
 pub mod Commands
 pub mod Spoken
 pub mod TextLine
+pub mod AuditLines
 pub mod Lines
 pub mod Texts
 pub mod Schedule

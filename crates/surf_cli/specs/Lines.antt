@@ -6,16 +6,18 @@ use Rattle.desc_check.specs.Line as description
 use Rattle.trace_read.specs.Line as trace
 use Rattle.vl_tree.specs.Faults as text_fault
 use Rattle.surf_cli.specs.TextLine as text
+use Rattle.surf_cli.specs.AuditLines.{leak_text}
 use Rattle.surf_cli.specs.declared.statuses.Status.{Status}
 use Rattle.surf_cli.specs.declared.statuses.Status.TheVariants as status
 use Rattle.surf_cli.specs.declared.statuses.End.{End}
 use Rattle.surf_cli.specs.declared.statuses.End.TheVariants.{Good, Usage, Refused, Read, Write, Memory, TooLong}
 use Rattle.surf_cli.specs.declared.refusals.Refusal.{Refusal}
-use Rattle.surf_cli.specs.declared.refusals.Refusal.TheVariants.{Description, NoDomain, Text, Trace}
+use Rattle.surf_cli.specs.declared.refusals.Refusal.TheVariants.{Description, NoDomain, Text, Trace, Leak}
 
 -- the number that the process ends with
 abbrev pub number_of : Status → ℕ
 number_of status.Good = 0
+number_of status.Leak = 1
 number_of status.Usage = 2
 number_of status.Description = 3
 number_of status.Trace = 4
@@ -32,6 +34,7 @@ status_of_refusal (Description fault) = status.Description
 status_of_refusal NoDomain = status.Domain
 status_of_refusal (Text fault) = status.Text
 status_of_refusal (Trace fault) = status.Trace
+status_of_refusal (Leak port phase foreign) = status.Leak
 
 -- the line of a refusal
 abbrev pub line_of_refusal : Refusal → List ℕ
@@ -39,6 +42,7 @@ line_of_refusal (Description fault) = description.line_of fault
 line_of_refusal NoDomain = codes "surf: no such domain\n"
 line_of_refusal (Text fault) = text.line_of fault
 line_of_refusal (Trace fault) = trace.line_of fault
+line_of_refusal (Leak port phase foreign) = leak_text port phase foreign
 
 -- the refusal carries a fault of what was read, and not that memory ran out
 abbrev pub IsOfContents : Refusal → Type 0
@@ -46,6 +50,7 @@ IsOfContents (Description fault) = IsMemory fault → ⊥
 IsOfContents NoDomain = Unit {0}
 IsOfContents (Text fault) = text_fault.IsMemory fault → ⊥
 IsOfContents (Trace fault) = trace.place_of fault ≢ None
+IsOfContents (Leak port phase foreign) = Unit {0}
 
 -- the status of an end
 abbrev pub status_of : End → Status

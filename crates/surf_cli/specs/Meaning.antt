@@ -17,35 +17,34 @@ use Rattle.trace_read.specs.Entries.{entries}
 use Rattle.trace_read.specs.Accepted as trace
 use Rattle.vl_tree.specs.Values.{Design}
 use Rattle.vl_tree.specs.declared.fault.TextFault.{TextFault}
+use Rattle.label_audit.specs.declared.leaks.Verdict.TheVariants.{Clean, Leak as LeakAt}
+use Rattle.label_audit.specs.Audited.{IsAudit}
 use Rattle.surf_cli.specs.declared.files.FileKind.{FileKind}
 use Rattle.surf_cli.specs.declared.statuses.End.{End}
-use Rattle.surf_cli.specs.declared.statuses.End.TheVariants.{Good, Usage, Refused, Read, TooLong}
+use Rattle.surf_cli.specs.declared.statuses.End.TheVariants.{Usage, Refused, Read, TooLong}
 use Rattle.surf_cli.specs.declared.refusals.Refusal.{Refusal}
-use Rattle.surf_cli.specs.declared.refusals.Refusal.TheVariants.{Description, NoDomain, Text, Trace}
+use Rattle.surf_cli.specs.declared.refusals.Refusal.TheVariants.{Description, NoDomain, Text, Trace, Leak}
 use Rattle.surf_cli.specs.Files.{NamedFile, limit_of}
 use Rattle.surf_cli.specs.Contents.{Contents, nothing, with_content}
-use Rattle.surf_cli.specs.Jobs.{Job, Schedule, Check, Routes, Simulate, Report, Upgrade, Replay, Command}
+use Rattle.surf_cli.specs.Jobs.{Job, Schedule, Check, Routes, Simulate, Report, Upgrade, Replay, Audit, Command}
 use Rattle.surf_cli.specs.Schedule.{schedule_text}
 use Rattle.surf_cli.specs.Accepted.{accepted_text}
 use Rattle.surf_cli.specs.Routes.{routes_text}
 use Rattle.surf_cli.specs.Simulate.{reports_text, report_text}
 use Rattle.surf_cli.specs.TextRead.{judged_text}
 use Rattle.surf_cli.specs.Replay.{replayed_text}
+use Rattle.surf_cli.specs.AuditLines.{isolated_text}
 
 -- what is to be written: these bytes, or a document of version 2 that says this plan
 pub data Work : Type 0 where
   Exactly : (bytes : List ℕ) → Work
   UpgradeOf : (plan : Plan) → Work
 
--- what a command comes to: a text is written, or the run ends so
+-- what a command comes to: a text is written, or the run ends so, or as the audit of a design for a plan ends
 pub data Outcome : Type 0 where
   Does : (work : Work) → Outcome
   Stops : (end : End) → Outcome
-
--- how a run ends that does not fail
-abbrev pub end_of : Outcome → End
-end_of (Does work) = Good
-end_of (Stops end) = end
+  Audits : (plan : Plan) (design : Design) → Outcome
 
 -- a refusal
 abbrev pub refuses : Refusal → Outcome
@@ -125,6 +124,21 @@ over (Report cycles name) held =
 over Upgrade held = with_plan held.description (λ p. Does (UpgradeOf p))
 over (Replay cycles) held = with_plan held.description (λ p. with_text p held.text (λ d.
     with_trace p held.trace (λ es. Does (Exactly (replayed_text p d es cycles)))))
+over Audit held = with_plan held.description (λ p. with_text p held.text (λ d. Audits p d))
+
+-- what a command may write where it ends well: bytes that are right for its work; an audit writes its line for a design
+-- that is clean
+abbrev pub Makes : Outcome → List ℕ → Type 0
+Makes (Does work) bytes = IsRight work bytes
+Makes (Stops end) bytes = ⊥
+Makes (Audits p d) bytes = IsAudit p d Clean × (bytes ≡ isolated_text p)
+
+-- how a command ends that writes nothing; an audit ends at the design's first leak
+abbrev pub Halts : Outcome → End → Type 0
+Halts (Does work) end = ⊥
+Halts (Stops cause) end = end ≡ cause
+Halts (Audits p d) end = (port : ℕ) × (phase : ℕ) × (foreign : ℕ)
+    × IsAudit p d (LeakAt port phase foreign) × (end ≡ Refused (Leak port phase foreign))
 
 -- what a command goes on to with a file, which is absent or holds some bytes
 abbrev pub with_file : FileKind → Option (List ℕ) → (List ℕ → Outcome) → Outcome

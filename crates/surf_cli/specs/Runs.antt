@@ -8,7 +8,7 @@ use Rattle.surf_cli.specs.Files.{NamedFile, limit_of}
 use Rattle.surf_cli.specs.Jobs.{Command}
 use Rattle.surf_cli.specs.Commands.{files_named}
 use Rattle.surf_cli.specs.Lines.{Says, IsOfContents, line_of, status_of}
-use Rattle.surf_cli.specs.Meaning.{IsRight, Outcome, Does, Stops, end_of, meaning}
+use Rattle.surf_cli.specs.Meaning.{Outcome, Makes, Halts, meaning}
 
 -- The outside at a moment: what is observed of each name, the bytes taken since the last opening and the count of
 -- faults of the files; what the sink has, where that is observed, and its count of faults.
@@ -52,24 +52,19 @@ WithinLast taken [] = Unit {0}
 WithinLast taken (file ∷ []) = taken ≤ limit_of file.kind
 WithinLast taken (file ∷ files) = WithinLast taken files
 
--- bytes that are right were appended; none, where nothing is to be written
-abbrev pub Delivered : Outcome → Option (List ℕ) → Option (List ℕ) → Type 0
-Delivered (Does work) old new = (bytes : List ℕ) × IsRight work bytes × (new ≡ appended old bytes)
-Delivered (Stops end) old new = new ≡ old
-
--- a prefix of bytes that are right was appended
-abbrev pub DeliveredPrefix : Outcome → Option (List ℕ) → Option (List ℕ) → Type 0
-DeliveredPrefix (Does work) old new = (bytes : List ℕ) × IsRight work bytes × GotPrefix old new bytes
-DeliveredPrefix (Stops end) old new = ⊥
+-- all is done that is meant: bytes that are right were appended, or the run ends so and nothing was written
+abbrev pub IsDone : Outcome → End → Option (List ℕ) → Option (List ℕ) → Type 0
+IsDone m Good old new = (bytes : List ℕ) × Makes m bytes × (new ≡ appended old bytes)
+IsDone m end old new = (new ≡ old) × Halts m end
 
 -- A run ends so that comes to m: it ends as m says and has written what m says, but for failures of the outside and
 -- of memory.
 abbrev pub IsMeant : Outcome → End → Outside → Outside → Type 0
-IsMeant m Good old new = (end_of m ≡ Good) × Delivered m old.written new.written
-IsMeant m Write old new = DeliveredPrefix m old.written new.written
+IsMeant m Good old new = IsDone m Good old.written new.written
+IsMeant m Write old new = (bytes : List ℕ) × Makes m bytes × GotPrefix old.written new.written bytes
 IsMeant m Memory old new = new.written ≡ old.written
-IsMeant m Read old new = (new.written ≡ old.written) × (Rose old.file_faults new.file_faults ⊎ (m ≡ Stops Read))
-IsMeant m end old new = (new.written ≡ old.written) × (m ≡ Stops end)
+IsMeant m Read old new = (new.written ≡ old.written) × (Rose old.file_faults new.file_faults ⊎ Halts m Read)
+IsMeant m end old new = (new.written ≡ old.written) × Halts m end
 
 -- the cause of an end, and how much was taken of the last file
 abbrev pub HasCause : List NamedFile → End → Outside → Outside → Type 0
@@ -107,6 +102,7 @@ pub record Completes (command : Option Command) (held : List ℕ → Held) (stat
     (old new said said' : Option (List ℕ)) (faults faults' : ℕ) : Type 0 where
   pub contents : List (Option (List ℕ))
   pub observed : MayHoldAll held (files_named command) contents
-  pub is : status ≡ status_of (end_of (meaning command contents))
-  pub bytes : Delivered (meaning command contents) old new
-  pub line : Says (line_of (end_of (meaning command contents))) said said' faults faults'
+  pub end : End
+  pub is : status ≡ status_of end
+  pub done : IsDone (meaning command contents) end old new
+  pub line : Says (line_of end) said said' faults faults'

@@ -3,10 +3,11 @@
 ghost use Rattle.std.specs.Prelude.{◌≡◌, map, string_bytes, option_map, IfSome, IfOk, IfErr};
 ghost use Rattle.surf_cli.specs.Commands.{command_of};
 ghost use Rattle.surf_cli.specs.Jobs.{HasFewCycles};
-ghost use Rattle.surf_cli.specs.Meaning.{over};
-ghost use Rattle.surf_cli.specs.Answers.{text_of, Makes, IsRefused};
+ghost use Rattle.surf_cli.specs.Meaning.{Makes, over};
+ghost use Rattle.surf_cli.specs.Answers.{text_of, IsRefused};
 ghost use Rattle.surf_cli.specs.Spoken.{command, job, gathered};
 
+mod audit;
 mod check;
 mod replay;
 mod report;
@@ -52,6 +53,8 @@ pub(crate) enum Job<'a> {
         /// The number of cycles.
         cycles: u32,
     },
+    /// Whether a Verilog text isolates the domains.
+    Audit,
 }
 
 /// What the words ask for.
@@ -80,6 +83,7 @@ pub(crate) fn command_of(words: &[String]) -> Option<Command<'_>>
         "report" => report::words(args),
         "upgrade" => upgrade::words(args),
         "replay" => replay::words(args),
+        "audit" => audit::words(args),
         _ => None,
     }
 }
@@ -98,6 +102,7 @@ fn text_for(alloc: Global, asked: Job<'_>, contents: Contents) -> Result<Text, E
         Job::Report { cycles, domain } => report::make(alloc, contents, cycles, domain),
         Job::Upgrade => upgrade::make(alloc, contents),
         Job::Replay { cycles } => replay::make(alloc, contents, cycles),
+        Job::Audit => audit::make(alloc, contents),
     }
 }
 

@@ -14,6 +14,7 @@ ghost use Rattle.surf_cli.specs.Runs.{Ends, Completes, outside};
 
 mod accepted;
 mod answers;
+mod audit_lines;
 mod commands;
 mod contents;
 mod files;

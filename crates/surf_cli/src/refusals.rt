@@ -3,6 +3,7 @@
 ghost use Rattle.std.specs.Prelude.{◌≡◌};
 ghost use Rattle.surf_cli.specs.Lines.{status_of_refusal, line_of_refusal, Says};
 
+use crate::audit_lines::leak_line;
 use crate::statuses::{Status, say};
 use crate::text_line::text_fault_line;
 use noc_desc::DescFault;
@@ -21,6 +22,8 @@ pub(crate) enum Refusal {
     Text(TextFault),
     /// The trace's first fault.
     Trace(TraceFault),
+    /// The text's first leak: the position of the port, the phase, and the other domain.
+    Leak { port: u32, phase: u32, foreign: u32 },
 }
 
 impl Refusal {
@@ -33,6 +36,7 @@ impl Refusal {
             Refusal::NoDomain => Status::Domain,
             Refusal::Text(_) => Status::Text,
             Refusal::Trace(_) => Status::Trace,
+            Refusal::Leak { .. } => Status::Leak,
         }
     }
 
@@ -46,6 +50,11 @@ impl Refusal {
             Refusal::NoDomain => say(err, b"surf: no such domain\n"),
             Refusal::Text(fault) => print_text_fault(fault, err),
             Refusal::Trace(fault) => print_trace_fault(fault, err),
+            Refusal::Leak {
+                port,
+                phase,
+                foreign,
+            } => print_leak(*port, *phase, *foreign, err),
         }
     }
 }
@@ -77,5 +86,15 @@ fn print_trace_fault<E: Sink>(fault: &TraceFault, err: &mut E)
 {
     let mut line = [0; 96];
     let len = trace_read::fault_line(fault, &mut line);
+    say(err, &line[..len]);
+}
+
+/// Writes the line of a leak to the error stream.
+fn print_leak<E: Sink>(port: u32, phase: u32, foreign: u32, err: &mut E)
+    ensures { Says (line_of_refusal (Refusal.Leak port phase foreign))
+        (E.written err.old) (E.written err.new) (E.faults err.old) (E.faults err.new) }
+{
+    let mut line = [0; 96];
+    let len = leak_line(port, phase, foreign, &mut line);
     say(err, &line[..len]);
 }

@@ -12,6 +12,8 @@ use surf_base::{Sink, TakeFault, write_all};
 pub enum Status {
     /// All bytes were written.
     Good,
+    /// The text has a leak: an output port of a domain may depend on another domain's inputs.
+    Leak,
     /// The words are no command.
     Usage,
     /// The description has a fault.
@@ -39,6 +41,7 @@ impl Status {
     {
         match self {
             Status::Good => 0,
+            Status::Leak => 1,
             Status::Usage => 2,
             Status::Description => 3,
             Status::Trace => 4,

@@ -890,3 +890,68 @@ fn failing_calls_of_a_replay_give_their_status(rt: HostRuntime) -> Result<(), Fa
     assert_eq!(rt; err.as_str(), "surf: read failed\n");
     Ok(())
 }
+
+const TWO_DOMAINS: &str = "version = 1\nshape = \"mesh\"\ndims = [1]\nstages = 1\nbuffer = 2\n\
+domain = [{name = \"a\", channels = 1}, {name = \"b\", channels = 1}]\n\
+tile = [{at = 0, domains = [\"a\", \"b\"]}]\n\
+range = [{tile = 0, first = 0x10, last = 0x1f}]\n";
+
+/// The ports of an attachment, with `@` for its tile and domain, then their joins, then all its outputs but the drop
+/// pulse.
+const EACH: [&str; 3] = [
+    ", input wire [0:0] ov@, input wire [31:0] oa@, input wire [31:0] op@, input wire [0:0] ol@,\n\
+input wire [0:0] hr@, output wire [0:0] rd@, output wire [0:0] dr@, output wire [0:0] ev@, output wire [0:0] eh@,\n\
+output wire [0:0] et@, output wire [31:0] ep@",
+    ", .ov@(ov@), .oa@(oa@), .op@(op@), .ol@(ol@), .hr@(hr@), .rd@(rd@), .dr@(dr@), .ev@(ev@),\n\
+.eh@(eh@), .et@(et@), .ep@(ep@)",
+    "assign rd@ = 1'd1; assign ev@ = 1'd0; assign eh@ = 1'd0; assign et@ = 1'd0; assign ep@ = 32'd0;\n",
+];
+
+/// Adds the text for both attachments of the tile.
+fn push_both(text: &mut String, form: &str) -> Result<(), AllocError> {
+    for numbers in ["_0_0", "_0_1"] {
+        for (i, part) in form.split("@").enumerate() {
+            if 0 < i {
+                text.push_str(numbers)?;
+            }
+            text.push_str(part)?;
+        }
+    }
+    Ok(())
+}
+
+/// A text with one tile of two domains, which shows the first in its drop pulse what `offered` was in the cycle before.
+fn two_domains(alloc: Global, offered: &str) -> Result<String, AllocError> {
+    let mut text = String::from_str(alloc, "module router_0 (input wire clk, input wire rst")?;
+    push_both(&mut text, EACH[0])?;
+    text.push_str(");\nreg [0:0] s_0; always @(posedge clk) if (rst) s_0 <= 1'd0; else s_0 <= ")?;
+    text.push_str(offered)?;
+    text.push_str("; assign dr_0_0 = s_0; assign dr_0_1 = 1'd0;\n")?;
+    push_both(&mut text, EACH[2])?;
+    text.push_str("endmodule\nmodule noc (input wire clk, input wire rst")?;
+    push_both(&mut text, EACH[0])?;
+    text.push_str(");\nrouter_0 tile_0 (.clk(clk), .rst(rst)")?;
+    push_both(&mut text, EACH[1])?;
+    text.push_str(");\nendmodule\n")?;
+    Ok(text)
+}
+
+#[test]
+fn a_text_isolates_the_domains_or_leaks(rt: HostRuntime) -> Result<(), Fail> {
+    let clean = "isolated domains 2 phases 2\n";
+    let leak = "surf: leak port 6 phase 0 domain 1\n";
+    let rows = [
+        ("audit d v", "ov_0_0", Status::Good, clean, ""),
+        ("audit d v", "ov_0_1", Status::Leak, "", leak),
+        ("audit d", "ov_0_0", Status::Usage, "", "surf: usage\n"),
+    ];
+    for (words, offered, status, out, err) in rows {
+        let text = two_domains(rt.alloc(), offered)?;
+        let held = [("d", TWO_DOMAINS.as_bytes()), ("v", text.as_bytes())];
+        let got = run_over(&rt, words, &held, &[], &[])?;
+        assert!(rt; got.0 == status, "{words}: {:?}", got.0);
+        assert_eq!(rt; got.1.as_str(), out, "{words}");
+        assert_eq!(rt; got.2.as_str(), err, "{words}");
+    }
+    Ok(())
+}

@@ -4,8 +4,8 @@ ghost use Rattle.std.specs.Prelude.{◌≡◌, ◌≤◌, map, string_bytes, opt
 ghost use Rattle.noc_model.specs.Limits.{most_cycles};
 ghost use Rattle.surf_cli.specs.Jobs.{Report, HasFewCycles};
 ghost use Rattle.surf_cli.specs.Commands.{report_words};
-ghost use Rattle.surf_cli.specs.Meaning.{over};
-ghost use Rattle.surf_cli.specs.Answers.{text_of, Makes, IsRefused};
+ghost use Rattle.surf_cli.specs.Meaning.{Makes, over};
+ghost use Rattle.surf_cli.specs.Answers.{text_of, IsRefused};
 ghost use Rattle.surf_cli.specs.Spoken.{command, job, gathered};
 
 use super::{Command, Job};

@@ -3,8 +3,8 @@
 ghost use Rattle.std.specs.Prelude.{◌≡◌, map, string_bytes, option_map, IfSome, IfOk, IfErr};
 ghost use Rattle.surf_cli.specs.Jobs.{Routes, HasFewCycles};
 ghost use Rattle.surf_cli.specs.Commands.{routes_words};
-ghost use Rattle.surf_cli.specs.Meaning.{over};
-ghost use Rattle.surf_cli.specs.Answers.{text_of, Makes, IsRefused};
+ghost use Rattle.surf_cli.specs.Meaning.{Makes, over};
+ghost use Rattle.surf_cli.specs.Answers.{text_of, IsRefused};
 ghost use Rattle.surf_cli.specs.Spoken.{command, job, gathered};
 
 use super::{Command, Job};
