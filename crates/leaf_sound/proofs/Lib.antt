@@ -1,0 +1,5 @@
+mod Bits
+mod Keyed
+mod Rising
+mod Ranked
+mod Nets
