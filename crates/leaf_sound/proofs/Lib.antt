@@ -3,3 +3,6 @@ mod Keyed
 mod Rising
 mod Ranked
 mod Nets
+mod Moved
+mod Headed
+mod Inner
