@@ -36,26 +36,26 @@ module _ (p : Plan) (n d : ℕ) (q : PortNames) (base : ℕ → ℕ) (size : Buf
   -- ---- a buffer
 
   buffer-rises : (push pop : Expr) (t : ℕ) (a : FifoNames) → t < 1024 → a.memory ≡ own t 0 → a.read ≡ own t 1 → a.write ≡ own t 2 → a.count ≡ own t 3 → a.front ≡ own t 4 → a.empty ≡ own t 5
-      → Rises (2048 * t) (2048 * suc t) (buffer_group a size push pop).heads
+      → Rises (2048 * t + 1) (2048 * suc t + 1) (buffer_group a size push pop).heads
   buffer-rises push pop t a below memory read write count front empty =
-      wire-next (2048 * t) (2048 * suc t) (wire-next (2048 * t) (2048 * suc t)
-      (mem-next (2048 * t) (2048 * suc t) (reg-next (2048 * t) (2048 * suc t) (reg-next (2048 * t) (2048 * suc t) (reg-next (2048 * t) (2048 * suc t)
-      (net-next (2048 * t) (2048 * t + 1) (2048 * t + 2) (2048 * suc t) (rw front (front-rank t below)) (omega arith) (omega arith)
-      (net-next (2048 * t + 2) (2048 * t + 2) (2048 * t + 3) (2048 * suc t) (rw empty (empty-rank t below)) (omega arith) (omega arith)
-      (clocked-next (2048 * t + 3) (2048 * t + 3) (2048 * t + 4) (2048 * suc t) (rw read (read-rank t below)) (omega arith) (omega arith)
-      (clocked-next (2048 * t + 4) (2048 * t + 4) (2048 * t + 5) (2048 * suc t) (rw write (write-rank t below)) (omega arith) (omega arith)
-      (clocked-next (2048 * t + 5) (2048 * t + 5) (2048 * t + 6) (2048 * suc t) (rw count (count-rank t below)) (omega arith) (omega arith)
-      (store-next (2048 * t + 6) (2048 * t + 6) (2048 * t + 7) (2048 * suc t) (rw memory (memory-rank t below)) (omega arith) (omega arith)
-      (nothing (2048 * t + 7) (2048 * suc t) (omega arith)))))))))))))
+      wire-next (2048 * t + 1) (2048 * suc t + 1) (wire-next (2048 * t + 1) (2048 * suc t + 1)
+      (mem-next (2048 * t + 1) (2048 * suc t + 1) (reg-next (2048 * t + 1) (2048 * suc t + 1) (reg-next (2048 * t + 1) (2048 * suc t + 1) (reg-next (2048 * t + 1) (2048 * suc t + 1)
+      (net-next (2048 * t + 1) (2048 * t + 1) (2048 * t + 2) (2048 * suc t + 1) (rw front (front-rank t below)) (omega arith) (omega arith)
+      (net-next (2048 * t + 2) (2048 * t + 2) (2048 * t + 3) (2048 * suc t + 1) (rw empty (empty-rank t below)) (omega arith) (omega arith)
+      (clocked-next (2048 * t + 3) (2048 * t + 3) (2048 * t + 4) (2048 * suc t + 1) (rw read (read-rank t below)) (omega arith) (omega arith)
+      (clocked-next (2048 * t + 4) (2048 * t + 4) (2048 * t + 5) (2048 * suc t + 1) (rw write (write-rank t below)) (omega arith) (omega arith)
+      (clocked-next (2048 * t + 5) (2048 * t + 5) (2048 * t + 6) (2048 * suc t + 1) (rw count (count-rank t below)) (omega arith) (omega arith)
+      (store-next (2048 * t + 6) (2048 * t + 6) (2048 * t + 7) (2048 * suc t + 1) (rw memory (memory-rank t below)) (omega arith) (omega arith)
+      (nothing (2048 * t + 7) (2048 * suc t + 1) (omega arith)))))))))))))
 
   link-buffer : (push pop : Expr) (port c : ℕ) → suc port < 7 → c < 8 → Rises (buffer_at d (suc port) c) (buffer_at d (suc port) (suc c)) (buffer_group (leaf_names.buffer d (suc port) c) size push pop).heads
   link-buffer push pop port c below less =
-      wider (buffer_at d (suc port) c) (2048 * buffer_tag d (suc port) c) (2048 * suc (buffer_tag d (suc port) c)) (buffer_at d (suc port) (suc c)) (omega arith) (omega arith)
+      wider (buffer_at d (suc port) c) (2048 * buffer_tag d (suc port) c + 1) (2048 * suc (buffer_tag d (suc port) c) + 1) (buffer_at d (suc port) (suc c)) (omega arith) (omega arith)
       (buffer-rises push pop (buffer_tag d (suc port) c) (leaf_names.buffer d (suc port) c) (omega arith) refl refl refl refl refl refl)
 
   local-buffer : (push pop : Expr) (c : ℕ) → c < 8 → Rises (buffer_at d 7 c) (buffer_at d 7 (suc c)) (buffer_group (leaf_names.buffer d 0 c) size push pop).heads
   local-buffer push pop c less =
-      wider (buffer_at d 7 c) (2048 * buffer_tag d 0 c) (2048 * suc (buffer_tag d 0 c)) (buffer_at d 7 (suc c)) (omega arith) (omega arith)
+      wider (buffer_at d 7 c) (2048 * buffer_tag d 0 c + 1) (2048 * suc (buffer_tag d 0 c) + 1) (buffer_at d 7 (suc c)) (omega arith) (omega arith)
       (buffer-rises push pop (buffer_tag d 0 c) (leaf_names.buffer d 0 c) (omega arith) refl refl refl refl refl refl)
 
   -- ---- the groups

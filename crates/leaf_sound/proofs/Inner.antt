@@ -68,39 +68,39 @@ module _ (p : Plan) (n : ℕ) (sound : IsSound p) where
 
   -- ---- heads
 
-  slots-head : GroupsRise its_heads 0 0 (slot_groups p n leaf_names (slot_high p))
-  slots-head = groups-each its_heads (λ k. 0) (length p.slots) (λ k less. groups-if its_heads 0 0 (uses_slot p n k) (λ used. one-reg 0 0 refl (no-groups its_heads 0 0 (omega arith))) (λ idle. no-groups its_heads 0 0 (omega arith)))
+  slots-head : GroupsRise its_heads 1 1 (slot_groups p n leaf_names (slot_high p))
+  slots-head = groups-each its_heads (λ k. 1) (length p.slots) (λ k less. groups-if its_heads 1 1 (uses_slot p n k) (λ used. one-reg 1 1 refl (no-groups its_heads 1 1 (omega arith))) (λ idle. no-groups its_heads 1 1 (omega arith)))
 
-  shared-head : GroupsRise its_heads 0 0 (shared_groups p n leaf_names net_names (port_names n) (leaf_sizes p) (dest_bits p) (flit_bits p) (channel_bits p))
+  shared-head : GroupsRise its_heads 1 1 (shared_groups p n leaf_names net_names (port_names n) (leaf_sizes p) (dest_bits p) (flit_bits p) (channel_bits p))
   shared-head =
-      groups-each its_heads (λ o. 0) (ports p) (λ o less. groups-if its_heads 0 0 (is_some (neighbour p n o))
-      (λ there. group-next its_heads 0 0 0 (wire-next 0 0 (nothing 0 0 (omega arith)))
-      (group-next its_heads 0 0 0 (registers (channel_bits p + flit_bits p) (leaf_names.row o) 0 (p.stages - 1 + 1)) (no-groups its_heads 0 0 (omega arith))))
-      (λ absent. no-groups its_heads 0 0 (omega arith)))
+      groups-each its_heads (λ o. 1) (ports p) (λ o less. groups-if its_heads 1 1 (is_some (neighbour p n o))
+      (λ there. group-next its_heads 1 1 1 (wire-next 1 1 (nothing 1 1 (omega arith)))
+      (group-next its_heads 1 1 1 (registers (channel_bits p + flit_bits p) (leaf_names.row o) 1 (p.stages - 1 + 1)) (no-groups its_heads 1 1 (omega arith))))
+      (λ absent. no-groups its_heads 1 1 (omega arith)))
 
-  heads : GroupsRise its_heads 0 (2048 * 1024) (inner_groups p n)
+  heads : GroupsRise its_heads 1 (2048 * 1024 + 1) (inner_groups p n)
   heads =
-      groups-join its_heads 0 0 (2048 * 1024) slots-head
-      (groups-join its_heads 0 0 (2048 * 1024) shared-head
-      (groups-wider its_heads 0 (buffer_at 0 0 0) (buffer_at (length p.domains) 0 0) (2048 * 1024) (omega arith) (let few = few-domains in omega (arith, few))
+      groups-join its_heads 1 1 (2048 * 1024 + 1) slots-head
+      (groups-join its_heads 1 1 (2048 * 1024 + 1) shared-head
+      (groups-wider its_heads 1 (buffer_at 0 0 0) (buffer_at (length p.domains) 0 0) (2048 * 1024 + 1) (omega arith) (let few = few-domains in omega (arith, few))
       (groups-each its_heads (λ d. buffer_at d 0 0) (length p.domains)
       (λ d there. let few = few-domains in heads-rise p n d (port_names n) (credit_base p) (leaf_sizes p) (dest_bits p) (flit_bits p) (channel_bits p) (omega (arith, few)) (few-ports p sound) (few-links p d sound there).1 (few-channels p d sound there).1))))
 
   -- ---- nets
 
-  slots-nets : GroupsRise its_nets (2048 * 1024) (2048 * 1536) (slot_groups p n leaf_names (slot_high p))
+  slots-nets : GroupsRise its_nets (2048 * 1024 + 1) (2048 * 1536) (slot_groups p n leaf_names (slot_high p))
   slots-nets =
       let most = sound.slot_count.1 in
-      groups-wider its_nets (2048 * 1024) (2048 * (1024 + 0)) (2048 * (1024 + length p.slots)) (2048 * 1536) (omega arith) (omega (arith, most))
-      (groups-each its_nets (λ k. 2048 * (1024 + k)) (length p.slots) (λ k less. groups-if its_nets (2048 * (1024 + k)) (2048 * (1024 + suc k)) (uses_slot p n k)
-      (λ used. group-next its_nets (2048 * (1024 + k)) (2048 * (1024 + suc k)) (2048 * (1024 + suc k))
+      groups-wider its_nets (2048 * 1024 + 1) (2048 * (1024 + 0) + 1) (2048 * (1024 + length p.slots) + 1) (2048 * 1536) (omega arith) (omega (arith, most))
+      (groups-each its_nets (λ k. 2048 * (1024 + k) + 1) (length p.slots) (λ k less. groups-if its_nets (2048 * (1024 + k) + 1) (2048 * (1024 + suc k) + 1) (uses_slot p n k)
+      (λ used. group-next its_nets (2048 * (1024 + k) + 1) (2048 * (1024 + suc k) + 1) (2048 * (1024 + suc k) + 1)
       (let few = few-domains in
-      wider (2048 * (1024 + k)) (2048 * (1024 + k) + 1 + 0) (2048 * (1024 + k) + 1 + length p.domains) (2048 * (1024 + suc k)) (omega arith) (omega (arith, few))
+      wider (2048 * (1024 + k) + 1) (2048 * (1024 + k) + 1 + 0) (2048 * (1024 + k) + 1 + length p.domains) (2048 * (1024 + suc k) + 1) (omega arith) (omega (arith, few))
       (each (λ e. 2048 * (1024 + k) + 1 + e) (length p.domains)
       (λ e below. net-next (2048 * (1024 + k) + 1 + e) (2048 * (1024 + k) + e + 1) (2048 * (1024 + k) + 1 + suc e) (2048 * (1024 + k) + 1 + suc e) (rank-net (owns_tag k) e (omega arith) (omega (arith, most, less)) (omega (arith, few, below))) (omega arith) (omega arith)
       (nothing (2048 * (1024 + k) + 1 + suc e) (2048 * (1024 + k) + 1 + suc e) (omega arith)))))
-      (no-groups its_nets (2048 * (1024 + suc k)) (2048 * (1024 + suc k)) (omega arith)))
-      (λ idle. no-groups its_nets (2048 * (1024 + k)) (2048 * (1024 + suc k)) (omega arith))))
+      (no-groups its_nets (2048 * (1024 + suc k) + 1) (2048 * (1024 + suc k) + 1) (omega arith)))
+      (λ idle. no-groups its_nets (2048 * (1024 + k) + 1) (2048 * (1024 + suc k) + 1) (omega arith))))
 
   shared-nets : GroupsRise its_nets (2048 * 1536) (2048 * 2048) (shared_groups p n leaf_names net_names (port_names n) (leaf_sizes p) (dest_bits p) (flit_bits p) (channel_bits p))
   shared-nets =
@@ -115,9 +115,9 @@ module _ (p : Plan) (n : ℕ) (sound : IsSound p) where
       (no-groups its_nets (2048 * (1536 + suc o)) (2048 * (1536 + suc o)) (omega arith))))
       (λ absent. no-groups its_nets (2048 * (1536 + o)) (2048 * (1536 + suc o)) (omega arith))))
 
-  nets : GroupsRise its_nets (2048 * 1024) (2048 * 4096) (inner_groups p n)
+  nets : GroupsRise its_nets (2048 * 1024 + 1) (2048 * 4096) (inner_groups p n)
   nets =
-      groups-join its_nets (2048 * 1024) (2048 * 1536) (2048 * 4096) slots-nets
+      groups-join its_nets (2048 * 1024 + 1) (2048 * 1536) (2048 * 4096) slots-nets
       (groups-join its_nets (2048 * 1536) (2048 * 2048) (2048 * 4096) shared-nets
       (groups-wider its_nets (2048 * 2048) (at 0 0 0) (at (length p.domains) 0 0) (2048 * 4096) (omega arith) (let few = few-domains in omega (arith, few))
       (groups-each its_nets (λ d. at d 0 0) (length p.domains)
@@ -165,8 +165,8 @@ module _ (p : Plan) (n : ℕ) (sound : IsSound p) where
 
   -- ---- all of them
 
-  pub all-rise : Rises 0 (2048 * 6144) (all_items (inner_groups p n))
-  all-rise = join 0 (2048 * 1024) (2048 * 6144) heads.all (join (2048 * 1024) (2048 * 4096) (2048 * 6144) nets.all moves.all)
+  pub all-rise : Rises 1 (2048 * 6144) (all_items (inner_groups p n))
+  all-rise = join 1 (2048 * 1024 + 1) (2048 * 6144) heads.all (join (2048 * 1024 + 1) (2048 * 4096) (2048 * 6144) nets.all moves.all)
 
   pub inner-once : (x : Name) → drivers [] (map item (all_items (inner_groups p n))) x ≤ 1
-  inner-once x = once 0 (2048 * 6144) (all_items (inner_groups p n)) x all-rise.by
+  inner-once x = once 1 (2048 * 6144) (all_items (inner_groups p n)) x all-rise.by

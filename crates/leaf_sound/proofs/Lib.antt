@@ -6,3 +6,4 @@ mod Nets
 mod Moved
 mod Headed
 mod Inner
+mod Evened

@@ -15,7 +15,7 @@ abbrev pub from : ℕ → ℕ → ℕ → ℕ
 from d s o = 2048 * (5120 + 64 * d + 8 * s + o)
 
 abbrev pub buffer_at : ℕ → ℕ → ℕ → ℕ
-buffer_at d q c = 2048 * (64 * d + 8 * q + c)
+buffer_at d q c = 2048 * (64 * d + 8 * q + c) + 1
 
 pub net-rank : (d s o i : ℕ) → d < 16 → s < 16 → o < 8 → i < 2048 → rank (own (net_tag d s o) i) ≡ at d s o + i + 1
 net-rank d s o i a b c e = rank-net (net_tag d s o) i (omega arith) (omega arith) e
