@@ -7,3 +7,4 @@ mod Moved
 mod Headed
 mod Inner
 mod Evened
+mod Ported
