@@ -197,7 +197,7 @@ module _ (x : Name) where
 
   -- ---- lists of groups
 
-  part-declares : (f : Group → List Item) (xs ys : List Group) → declares (flat_map f (xs ++ ys)) ≡ declares (flat_map f xs) + declares (flat_map f ys)
+  pub part-declares : (f : Group → List Item) (xs ys : List Group) → declares (flat_map f (xs ++ ys)) ≡ declares (flat_map f xs) + declares (flat_map f ys)
   part-declares f [] ys = omega arith
   part-declares f (g ∷ xs) ys = declares-append (f g) (flat_map f (xs ++ ys)) ∙ rw (part-declares f xs ys) (omega (arith, declares-append (f g) (flat_map f xs)))
 
@@ -216,14 +216,36 @@ module _ (x : Name) where
   even-next : {g : Group} {gs : List Group} → EvenGroup g → EvenGroups gs → EvenGroups (g ∷ gs)
   even-next {g} {gs} a b =
       let first = a.same in let more = b.same in
-      record { same = omega (arith, first, more, declares-append g.heads (flat_map (λ (g : Group). g.heads) gs), declares-append g.nets (flat_map (λ (g : Group). g.nets) gs), declares-append g.moves (flat_map (λ (g : Group). g.moves) gs),
-          driven-append g.heads (flat_map (λ (g : Group). g.heads) gs), driven-append g.nets (flat_map (λ (g : Group). g.nets) gs), driven-append g.moves (flat_map (λ (g : Group). g.moves) gs)) }
+      record {
+        same = omega (
+          arith,
+          first,
+          more,
+          declares-append g.heads (flat_map (λ (g : Group). g.heads) gs),
+          declares-append g.nets (flat_map (λ (g : Group). g.nets) gs),
+          declares-append g.moves (flat_map (λ (g : Group). g.moves) gs),
+          driven-append g.heads (flat_map (λ (g : Group). g.heads) gs),
+          driven-append g.nets (flat_map (λ (g : Group). g.nets) gs),
+          driven-append g.moves (flat_map (λ (g : Group). g.moves) gs),
+        );
+      }
 
   even-join : {xs ys : List Group} → EvenGroups xs → EvenGroups ys → EvenGroups (xs ++ ys)
   even-join {xs} {ys} a b =
       let first = a.same in let more = b.same in
-      record { same = omega (arith, first, more, part-declares (λ (g : Group). g.heads) xs ys, part-declares (λ (g : Group). g.nets) xs ys, part-declares (λ (g : Group). g.moves) xs ys,
-          part-driven (λ (g : Group). g.heads) xs ys, part-driven (λ (g : Group). g.nets) xs ys, part-driven (λ (g : Group). g.moves) xs ys) }
+      record {
+        same = omega (
+          arith,
+          first,
+          more,
+          part-declares (λ (g : Group). g.heads) xs ys,
+          part-declares (λ (g : Group). g.nets) xs ys,
+          part-declares (λ (g : Group). g.moves) xs ys,
+          part-driven (λ (g : Group). g.heads) xs ys,
+          part-driven (λ (g : Group). g.nets) xs ys,
+          part-driven (λ (g : Group). g.moves) xs ys,
+        );
+      }
 
   even-each : {f : ℕ → List Group} (n : ℕ) → ((k : ℕ) → EvenGroups (f k)) → EvenGroups (each_group n f)
   even-each zero h = no-evens

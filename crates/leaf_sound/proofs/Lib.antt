@@ -8,3 +8,5 @@ mod Headed
 mod Inner
 mod Evened
 mod Ported
+mod Outs
+mod Named

@@ -170,7 +170,7 @@ module _ (p : Plan) (n : ℕ) (sound : IsSound p) (inside : n < tiles p) where
   pub port-once : (x : Name) → named x (tile_head p n).ports ≤ 1
   port-once x =
       let all = subst (PortsRise 0 8192) (sym (map-append (flat_map host_ties (filter (λ (h : Host). h.tile == n) p.hosts)) (flat_map (λ q. link_ties p n q (neighbour p n q)) (tabulate (ports p) (λ q. q)))))
-          (ports-join 0 4096 8192
-          (hosts-rise p.hosts sound.hosts_in_order (λ k d less. let inside = (sound.hosts k d less).1 in let few = few-domains in omega (arith, inside, few)) 0 (omega arith) (λ k d less same. omega arith))
-          (links-rise (ports p) 0 (λ q. q) (λ i. omega arith) (let few = few-ports in omega (arith, few)))) in
+      (ports-join 0 4096 8192
+      (hosts-rise p.hosts sound.hosts_in_order (λ k d less. let inside = (sound.hosts k d less).1 in let few = few-domains in omega (arith, inside, few)) 0 (omega arith) (λ k d less same. omega arith))
+      (links-rise (ports p) 0 (λ q. q) (λ i. omega arith) (let few = few-ports in omega (arith, few)))) in
       named-once 0 8192 (tile_head p n).ports x all.by

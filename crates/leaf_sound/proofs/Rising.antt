@@ -104,7 +104,7 @@ module _ (part : Group → List Item) where
   pub record GroupsRise (low high : ℕ) (gs : List Group) : Type 0 where
     pub all : Rises low high (flat_map part gs)
 
-  flat-append : (xs ys : List Group) → flat_map part (xs ++ ys) ≡ flat_map part xs ++ flat_map part ys
+  pub flat-append : (xs ys : List Group) → flat_map part (xs ++ ys) ≡ flat_map part xs ++ flat_map part ys
   flat-append [] ys = refl
   flat-append (x ∷ xs) ys = ap (λ z. part x ++ z) (flat-append xs ys) ∙ assoc (part x) (flat_map part xs) (flat_map part ys)
     where
@@ -170,3 +170,21 @@ once low high (store c n i e ∷ is) x r = once-more low high is x n r.1 (once (
 once low high (wire h n ∷ is) x r = let rest = once low high is x r in omega (arith, rest)
 once low high (reg h n ∷ is) x r = let rest = once low high is x r in omega (arith, rest)
 once low high (mem h n last ∷ is) x r = let rest = once low high is x r in omega (arith, rest)
+
+ends-high : (low high : ℕ) (is : List Item) → RiseBy low high is → low ≤ high
+ends-high low high [] r = r
+ends-high low high (assign n e ∷ is) r = let first = r.0 in let last = ends-high (rank n + 1) high is r.1 in omega (arith, first, last)
+ends-high low high (clocked n k e ∷ is) r = let first = r.0 in let last = ends-high (rank n + 1) high is r.1 in omega (arith, first, last)
+ends-high low high (store c n i e ∷ is) r = let first = r.0 in let last = ends-high (rank n + 1) high is r.1 in omega (arith, first, last)
+ends-high low high (wire h n ∷ is) r = ends-high low high is r
+ends-high low high (reg h n ∷ is) r = ends-high low high is r
+ends-high low high (mem h n last ∷ is) r = ends-high low high is r
+
+pub none-above : (low high : ℕ) (is : List Item) (x : Name) → RiseBy low high is → high ≤ rank x → drivers [] (map item is) x ≡ 0
+none-above low high [] x r more = refl
+none-above low high (assign n e ∷ is) x r more = let last = ends-high (rank n + 1) high is r.1 in rw (other-rank x n (λ same. omega (arith, last)), none-above (rank n + 1) high is x r.1 more) refl
+none-above low high (clocked n k e ∷ is) x r more = let last = ends-high (rank n + 1) high is r.1 in rw (other-rank x n (λ same. omega (arith, last)), none-above (rank n + 1) high is x r.1 more) refl
+none-above low high (store c n i e ∷ is) x r more = let last = ends-high (rank n + 1) high is r.1 in rw (other-rank x n (λ same. omega (arith, last)), none-above (rank n + 1) high is x r.1 more) refl
+none-above low high (wire h n ∷ is) x r more = rw (none-above low high is x r more) refl
+none-above low high (reg h n ∷ is) x r more = rw (none-above low high is x r more) refl
+none-above low high (mem h n last ∷ is) x r more = rw (none-above low high is x r more) refl
