@@ -10,3 +10,5 @@ mod Evened
 mod Ported
 mod Outs
 mod Named
+mod Typed
+mod Walk
