@@ -12,3 +12,5 @@ mod Outs
 mod Named
 mod Typed
 mod Walk
+mod Plainly
+mod Facts
