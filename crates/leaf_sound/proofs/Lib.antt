@@ -14,3 +14,4 @@ mod Typed
 mod Walk
 mod Plainly
 mod Facts
+mod Domain
