@@ -1,34 +1,38 @@
 -- What a domain's groups declare, with ranks: the nets and registers of a leaf by their names.
-use Rattle.std.proofs.Common.{◌≡◌, ◌≢◌, ℕ, zero, suc, ◌+◌, ◌-◌, ◌*◌, ◌^◌, ◌<◌, ◌≤◌, ◌⊎◌, inl, inr, Bool, true, false, List, [], ◌∷◌, ◌++◌, length, refl, sym, ◌∙◌, ap, subst, arith, Option, Some, None, is_some}
+use Rattle.std.proofs.Common.{◌≡◌, ◌≢◌, ℕ, zero, suc, ◌+◌, ◌-◌, ◌*◌, ◌^◌, ◌<◌, ◌≤◌, ◌⊎◌, inl, inr, Bool, true, false, List, [], ◌∷◌, ◌++◌, length, refl, sym, ◌∙◌, ap, subst, arith, Option, Some, None, is_some, slice_index_or, nat_le, if◌then◌else◌}
 use Rattle.std.specs.List.{AllByRecursion}
-use Rattle.vl_tree.specs.Values.{Name, Expr, Item, wire, reg, mem, assign, net, bit, cat}
+use Rattle.vl_tree.specs.declared.tree.Op.TheVariants.{And, Or}
+use Rattle.vl_tree.specs.Values.{Name, Expr, Item, wire, reg, mem, assign, net, bit, part, not, two, choose, cat}
 use Rattle.vl_tree.specs.Tokens.{is_name}
 use Rattle.vl_model.specs.declared.kind.Kind.TheVariants.{Input, Inner, Register, Memory}
 use Rattle.vl_model.specs.Lines.{Line, item, declared, lookup, kind_passes, is_register, is_output}
 use Rattle.vl_model.proofs.Passed.{all-front, all-back}
-use Rattle.noc_model.specs.Plan.{Plan, tiles, ports, hosts, channels, link_channels, in_channels, at_local}
+use Rattle.noc_model.specs.declared.Range.{Range}
+use Rattle.noc_model.specs.declared.plan.DomainPart.{DomainPart}
+use Rattle.noc_model.specs.Plan.{classes, Plan, tiles, ports, hosts, channels, link_channels, in_channels, at_local}
 use Rattle.noc_model.specs.Place.{neighbour}
 use Rattle.noc_model.specs.Sound.{IsSound}
-use Rattle.flit_word.specs.Words.{dest_bits, channel_bits, flit_bits, max_link_channels}
-use Rattle.gen_kit.specs.Families.{for_each, or_upto, row_parts}
+use Rattle.flit_word.specs.Words.{dest_bits, channel_bits, flit_bits, max_channels, max_link_channels}
+use Rattle.gen_kit.specs.Families.{for_each, or_upto, row_parts, defined}
 use Rattle.gen_kit.specs.Groups.{Group, all_items}
 use Rattle.gen_kit.specs.Rotate.{rotate_group}
 use Rattle.leaf_tie.specs.Alloc.{alloc_group, class_nets, taken_nets, asks_class, out_count}
 use Rattle.leaf_tie.specs.Switch.{switch_group, port_nets, output_nets, grant_nets, place_count}
 use Rattle.leaf_tie.specs.Buffers.{buffer_group}
 use Rattle.leaf_tie.specs.Counts.{idle_group, credit_group}
-use Rattle.leaf_tie.specs.Attach.{attach_group, enter_at, look_nets, reach}
+use Rattle.leaf_tie.specs.Attach.{attach_group, enter_at, look_nets, looked, room_expr, entry_word, reach}
 use Rattle.leaf_tie.specs.Tie.{HasLink, HasPort, alloc_size}
-use Rattle.leaf_tie.specs.Glue.{switch_names, switch_size, attach_names, attach_size, high, out_high, has_port, has_place, filled_group, tails_group, led_group, ends_group, ready_group, unready_group, on_group, freed_group, flit_group, word_group, eject_group, pulse_group, link_push, pop_of}
+use Rattle.leaf_tie.specs.Glue.{switch_names, switch_size, attach_names, attach_size, current_high, high, out_high, has_port, has_place, filled_group, tails_group, led_group, ends_group, ready_group, unready_group, on_group, freed_group, flit_group, word_group, eject_group, pulse_group, link_push, pop_of}
+use Rattle.leaf_tie.specs.Whole.{each_group, channel_groups, local_groups}
 use Rattle.leaf_tie.specs.Names.{own, buffer_tag, net_tag, register_tag, leaf_names, net_names, port_names, credit_base, leaf_sizes, slot_high, inner_groups}
-use Rattle.leaf_tie.proofs.Members.{Member}
+use Rattle.leaf_tie.proofs.Members.{Member, in-back}
 use Rattle.leaf_tie.proofs.Grouped.{in-domain, before, unready-member, middle, behind, sent, channel, linked-member, local, entered-member}
 use Rattle.leaf_tie.proofs.Glued.{link-there, port-has}
 use Rattle.leaf_tie.proofs.Sized.{place_count-is, out-link}
 use Rattle.leaf_sound.proofs.Keyed.{rank}
 use Rattle.leaf_sound.proofs.Ranked.{at, from, net-rank, register-rank, no-local, front-rank, empty-rank}
 use Rattle.leaf_sound.proofs.Bits.{bits-few, bits-some, index-few, count-few}
-use Rattle.leaf_sound.proofs.Inner.{few-classes, few-channels, few-links, few-ports}
+use Rattle.leaf_sound.proofs.Inner.{few-classes, few-channels, few-links, few-ports, few-ranges}
 use Rattle.leaf_sound.proofs.Typed.{Net, Is, net-is}
 use Rattle.leaf_sound.proofs.Walk.{May, Any}
 use Rattle.leaf_sound.proofs.Plainly.{own-plain}
@@ -333,3 +337,147 @@ module _ (p : Plan) (n : ℕ) (sound : IsSound p) (inside : n < tiles p) where
 
     pub turn-pointer : (o : ℕ) → o < ports p - 1 + 1 → Net ls Register (leaf_names.turn d o).pointer (link_channels p d - 1)
     turn-pointer o less = reg-of 2 o 0 (link_channels p d - 1) (each-has (ItemFound ls) (ports p - 1 + 1) (λ o. reg (link_channels p d - 1) (leaf_names.turn d o).pointer ∷ []) o less (all-back (ItemFound ls) (for_each (ports p - 1 + 1) (λ o. reg (ports p - 1) (leaf_names.switch d o).pointer ∷ [])) (for_each (ports p - 1 + 1) (λ o. reg (link_channels p d - 1) (leaf_names.turn d o).pointer ∷ [])) switch-heads)).0 few-links-high (omega arith) (low-port o less) (omega arith)
+
+    -- ---- links
+
+    link-has : (o : ℕ) → HasLink p n o → has_port p n d o ≡ true
+    link-has zero h = absurd (no-local p n h.1)
+    link-has (suc o) h = h.1
+
+    few-word : channel_bits p + flit_bits p < 64
+    few-word =
+        let a = few-dests in
+        let b : channel_bits p ≤ 3 = bits-few 3 (max_link_channels p) (omega arith) (most-links p.domains (λ k x less. (sound.channels k x less).1)) in
+        omega (arith, a, b)
+      where
+        most-links : (xs : List DomainPart) → ((k : ℕ) (x : DomainPart) → k < length xs → (slice_index_or xs k x).channels ≤ 4) → max_channels (classes p) xs ≤ 2 ^ 3
+        most-links [] h = omega arith
+        most-links (x ∷ xs) h =
+            let first : x.channels ≤ 4 = h 0 x (omega arith) in
+            let two = (few-classes p).1 in
+            let most : classes p * x.channels ≤ 2 * 4 = Rattle.std.proofs.lemmas.Nat.mul-le (classes p) x.channels 2 4 two first in
+            let rest = most-links xs (λ k y less. h (suc k) y (omega arith)) in
+            grind (arith)
+
+    module _ (o : ℕ) (link : HasLink p n o) where
+      low-link : o < 8
+      low-link = few-o o link.0
+
+      pub on : (x : ℕ) → x < link_channels p d → Wire ls (net_names.on d o x) 0 (at d (at_local o 11 9) o + x + 1)
+      on x less =
+          let few = links.1 in
+          wire-of (at_local o 11 9) o x 0 (nets-of p n sound inside (on_group p leaf_names net_names d o x) (channel p n leaf_names net_names (port_names n) (credit_base p) (leaf_sizes p) (slot_high p) (dest_bits p) (flit_bits p) (channel_bits p) [] d there (on_group p leaf_names net_names d o x) o x link less (inl refl))).0 (omega arith) (low o) low-link (omega (arith, few, less))
+        where
+          low : (o : ℕ) → at_local o 11 9 < 16
+          low zero = omega arith
+          low (suc o) = omega arith
+
+      pub credits : (x : ℕ) → x < link_channels p d → Net ls Register (leaf_names.credits d o x) (leaf_sizes p).lh
+      credits x less =
+          let few = links.1 in
+          reg-of 4 o x (leaf_sizes p).lh (heads-of p n sound inside (credit_group (leaf_names.credits d o x) (bit ((port_names n).credit_in o (credit_base p d + x)) ((port_names n).credit_bit (credit_base p d + x))) (net (net_names.on d o x)) (leaf_sizes p).lh p.buffer)
+          (channel p n leaf_names net_names (port_names n) (credit_base p) (leaf_sizes p) (slot_high p) (dest_bits p) (flit_bits p) (channel_bits p) [] d there (credit_group (leaf_names.credits d o x) (bit ((port_names n).credit_in o (credit_base p d + x)) ((port_names n).credit_bit (credit_base p d + x))) (net (net_names.on d o x)) (leaf_sizes p).lh p.buffer) o x link less (inr (inl refl)))).0 few-count (omega arith) low-link (omega (arith, few, less))
+
+      pub word : Wire ls (net_names.word d o) (channel_bits p + flit_bits p) (at d 9 o + 8 + 1)
+      word = wire-of 9 o 8 (channel_bits p + flit_bits p) (nets-of p n sound inside (word_group p n leaf_names net_names (dest_bits p) (flit_bits p) (channel_bits p) d o)
+          (sent p n leaf_names net_names (port_names n) (credit_base p) (leaf_sizes p) (slot_high p) (dest_bits p) (flit_bits p) (channel_bits p) [] d there (word_group p n leaf_names net_names (dest_bits p) (flit_bits p) (channel_bits p) d o) o link
+          (in-back (word_group p n leaf_names net_names (dest_bits p) (flit_bits p) (channel_bits p) d o) (each_group (link_channels p d) (channel_groups p d leaf_names net_names (port_names n) (credit_base p) (leaf_sizes p) o)) _ (inl refl)))).0 few-word (omega arith) low-link (omega arith)
+
+      pub pulse : Net ls Register (leaf_names.pulse d o) (link_channels p d - 1)
+      pulse = reg-of 4 o 8 (link_channels p d - 1) (heads-of p n sound inside (pulse_group p leaf_names net_names d o)
+          (sent p n leaf_names net_names (port_names n) (credit_base p) (leaf_sizes p) (slot_high p) (dest_bits p) (flit_bits p) (channel_bits p) [] d there (pulse_group p leaf_names net_names d o) o link
+          (in-back (pulse_group p leaf_names net_names d o) (each_group (link_channels p d) (channel_groups p d leaf_names net_names (port_names n) (credit_base p) (leaf_sizes p) o)) _ (inr (inl refl))))).0 few-links-high (omega arith) low-link (omega arith)
+
+    -- ---- the attachment
+
+    module _ (host : hosts p n d ≡ true) where
+      here : (g : Group) → Member g (local_groups p n d leaf_names net_names (port_names n) (leaf_sizes p) (dest_bits p)) → Member g (inner_groups p n)
+      here g m = local p n leaf_names net_names (port_names n) (credit_base p) (leaf_sizes p) (slot_high p) (dest_bits p) (flit_bits p) (channel_bits p) [] d there g host m
+
+      pub on-local : Wire ls (net_names.on d 0 0) 0 (at d 11 0 + 0 + 1)
+      on-local = wire-of 11 0 0 0 (nets-of p n sound inside (on_group p leaf_names net_names d 0 0) (here (on_group p leaf_names net_names d 0 0) (inl refl))).0 (omega arith) (omega arith) (omega arith) (omega arith)
+
+      eject-member : Member (eject_group p n leaf_names net_names (port_names n) (dest_bits p) d) (inner_groups p n)
+      eject-member = here (eject_group p n leaf_names net_names (port_names n) (dest_bits p) d) (inr (inl refl))
+
+      pub ejected : Net ls Register (leaf_names.ejected d) 34
+      ejected = reg-of 5 0 0 34 (heads-of p n sound inside (eject_group p n leaf_names net_names (port_names n) (dest_bits p) d) eject-member).0 (omega arith) (omega arith) (omega arith) (omega arith)
+
+      pub eject : Wire ls (net_names.eject d) (33 + dest_bits p) (at d 11 0 + 1 + 1)
+      eject = wire-of 11 0 1 (33 + dest_bits p) (nets-of p n sound inside (eject_group p n leaf_names net_names (port_names n) (dest_bits p) d) eject-member).0 (let few = few-dests in omega (arith, few)) (omega arith) (omega arith) (omega arith)
+
+      attach-member : Member (attach_group p n d (attach_names leaf_names net_names d) (port_names n) (attach_size p (leaf_sizes p) (dest_bits p) d)) (inner_groups p n)
+      attach-member = here (attach_group p n d (attach_names leaf_names net_names d) (port_names n) (attach_size p (leaf_sizes p) (dest_bits p) d)) (inr (inr (inl refl)))
+
+      attach-heads : AllByRecursion (ItemFound ls) (attach_group p n d (attach_names leaf_names net_names d) (port_names n) (attach_size p (leaf_sizes p) (dest_bits p) d)).heads
+      attach-heads = heads-of p n sound inside (attach_group p n d (attach_names leaf_names net_names d) (port_names n) (attach_size p (leaf_sizes p) (dest_bits p) d)) attach-member
+
+      few-current : current_high (channels p d) < 64
+      few-current = go (nat_le (channels p d) 2)
+        where
+          go : (b : Bool) → (if b then 0 else 1) < 64
+          go true = omega arith
+          go false = omega arith
+
+      few-dest : dest_bits p - 1 < 64
+      few-dest = let few = few-dests in omega (arith, few)
+
+      pub passing : Net ls Register (leaf_names.passing d) 0
+      passing = reg-of 5 0 1 0 attach-heads.0 (omega arith) (omega arith) (omega arith) (omega arith)
+
+      pub dropping : Net ls Register (leaf_names.dropping d) 0
+      dropping = reg-of 5 0 2 0 attach-heads.1.0 (omega arith) (omega arith) (omega arith) (omega arith)
+
+      pub dest : Net ls Register (leaf_names.dest d) (dest_bits p - 1)
+      dest = reg-of 5 0 3 (dest_bits p - 1) attach-heads.1.1.0 few-dest (omega arith) (omega arith) (omega arith)
+
+      pub current : Net ls Register (leaf_names.current d) (current_high (channels p d))
+      current = reg-of 5 0 4 (current_high (channels p d)) attach-heads.1.1.1.0 few-current (omega arith) (omega arith) (omega arith)
+
+      pub dropped : Net ls Register (leaf_names.dropped d) 0
+      dropped = reg-of 5 0 5 0 attach-heads.1.1.1.1.0 (omega arith) (omega arith) (omega arith) (omega arith)
+
+      pub local-word : Wire ls (net_names.local d) (leaf_sizes p).wh (at d 12 0 + 5 + 1)
+      local-word = wire-of 12 0 5 (leaf_sizes p).wh attach-heads.1.1.1.1.1.0 few-words (omega arith) (omega arith) (omega arith)
+
+      attach-nets : AllByRecursion (ItemFound ls) (attach_group p n d (attach_names leaf_names net_names d) (port_names n) (attach_size p (leaf_sizes p) (dest_bits p) d)).nets
+      attach-nets = nets-of p n sound inside (attach_group p n d (attach_names leaf_names net_names d) (port_names n) (attach_size p (leaf_sizes p) (dest_bits p) d)) attach-member
+
+      looks-found : (rs : List Range) → AllByRecursion (ItemFound ls) (look_nets ((port_names n).address d) (net_names.look d) (dest_bits p) rs) → (k : ℕ) → 1 ≤ k → k ≤ length rs → ItemFound ls (wire (dest_bits p) (net_names.look d k))
+      looks-found [] a k some le = absurd (omega arith)
+      looks-found (r ∷ rs) a k some le = go (λ h. looks-found rs (all-front (ItemFound ls) (look_nets ((port_names n).address d) (net_names.look d) (dest_bits p) rs) _ a) k some h) order
+        where
+          order : (k ≤ length rs) ⊎ (k ≡ suc (length rs))
+          order = grind arith
+
+          go : (k ≤ length rs → ItemFound ls (wire (dest_bits p) (net_names.look d k))) → (k ≤ length rs) ⊎ (k ≡ suc (length rs)) → ItemFound ls (wire (dest_bits p) (net_names.look d k))
+          go more (inl h) = more h
+          go more (inr e) = subst (λ j. ItemFound ls (wire (dest_bits p) (net_names.look d j))) (sym e) (all-back (ItemFound ls) (look_nets ((port_names n).address d) (net_names.look d) (dest_bits p) rs) _ a).0
+
+      pub look : (k : ℕ) → 1 ≤ k → k ≤ length (reach p d) → Wire ls (net_names.look d k) (dest_bits p) (at d 11 0 + (1 + k) + 1)
+      look k some le =
+          let few = few-ranges p d sound in let short = few-dests in
+          wire-of 11 0 (1 + k) (dest_bits p) (looks-found (reach p d) (all-front (ItemFound ls) (look_nets ((port_names n).address d) (net_names.look d) (dest_bits p) (reach p d)) _ attach-nets) k some le) (omega (arith, short)) (omega arith) (omega arith) (omega (arith, few, le))
+
+      after-looks : AllByRecursion (ItemFound ls) (wire (dest_bits p) (net_names.found d) ∷ assign (net_names.found d) (looked (net_names.look d) (dest_bits p) (length (reach p d)))
+          ∷ (defined 0 (net_names.taken d) (two And (net ((port_names n).offered d)) (two Or (net (leaf_names.dropping d)) (room_expr p d (attach_names leaf_names net_names d) (attach_size p (leaf_sizes p) (dest_bits p) d))))
+          ++ (defined 0 (net_names.goes d) (two Or (net (leaf_names.passing d)) (two And (not (net (leaf_names.dropping d))) (bit (net_names.found d) (dest_bits p))))
+          ++ (defined (dest_bits p - 1) (net_names.to d) (choose (net (leaf_names.passing d)) (net (leaf_names.dest d)) (part (net_names.found d) (dest_bits p - 1) 0))
+          ++ (defined 0 (net_names.enters d) (two And (net (net_names.taken d)) (net (net_names.goes d)))
+          ++ (assign (net_names.local d) (entry_word p n (attach_names leaf_names net_names d) ((port_names n).last d) ((port_names n).payload d) (dest_bits p)) ∷ []))))))
+      after-looks = all-back (ItemFound ls) (look_nets ((port_names n).address d) (net_names.look d) (dest_bits p) (reach p d)) _ attach-nets
+
+      pub found-net : Wire ls (net_names.found d) (dest_bits p) (at d 12 0 + 0 + 1)
+      found-net = wire-of 12 0 0 (dest_bits p) after-looks.0 (let few = few-dests in omega (arith, few)) (omega arith) (omega arith) (omega arith)
+
+      pub taken-net : Wire ls (net_names.taken d) 0 (at d 12 0 + 1 + 1)
+      taken-net = wire-of 12 0 1 0 after-looks.1.1.0 (omega arith) (omega arith) (omega arith) (omega arith)
+
+      pub goes : Wire ls (net_names.goes d) 0 (at d 12 0 + 2 + 1)
+      goes = wire-of 12 0 2 0 after-looks.1.1.1.1.0 (omega arith) (omega arith) (omega arith) (omega arith)
+
+      pub to : Wire ls (net_names.to d) (dest_bits p - 1) (at d 12 0 + 3 + 1)
+      to = wire-of 12 0 3 (dest_bits p - 1) after-looks.1.1.1.1.1.1.0 few-dest (omega arith) (omega arith) (omega arith)
+
+      pub enters : Wire ls (net_names.enters d) 0 (at d 12 0 + 4 + 1)
+      enters = wire-of 12 0 4 0 after-looks.1.1.1.1.1.1.1.1.0 (omega arith) (omega arith) (omega arith) (omega arith)
