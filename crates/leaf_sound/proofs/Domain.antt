@@ -65,20 +65,20 @@ module _ (ls : List Line) where
   wire-in {t} {m} {h} {k} {r} {s} x y less = net-is ls (May ls t) y.its (by-rank t m s r x y.at_rank less)
 
 module _ (p : Plan) (n : ℕ) (sound : IsSound p) (inside : n < tiles p) where
-  few-dests : dest_bits p ≤ 8
+  pub few-dests : dest_bits p ≤ 8
   few-dests = bits-few 8 (tiles p) (omega arith) (let most = sound.tile_count in omega (arith, most))
 
   abbrev pub ls : List Line
   ls = lines p n sound inside
 
   module _ (d : ℕ) (there : d < length p.domains) where
-    few-d : d < 16
+    pub few-d : d < 16
     few-d = let most = sound.domains.1 in omega (arith, most, there)
 
-    links : (1 ≤ link_channels p d) × (link_channels p d ≤ 8)
+    pub links : (1 ≤ link_channels p d) × (link_channels p d ≤ 8)
     links = few-links p d sound there
 
-    few-high : high p d < 64
+    pub few-high : high p d < 64
     few-high = let a = few-ports p sound in let b = links.1 in let all = Rattle.std.proofs.lemmas.Nat.mul-le (ports p) (link_channels p d) 7 8 a b in omega (arith, all)
 
     net-plain : (s o i : ℕ) → s < 16 → o < 8 → i < 2048 → is_name (own (net_tag d s o) i) ≡ true
@@ -93,7 +93,7 @@ module _ (p : Plan) (n : ℕ) (sound : IsSound p) (inside : n < tiles p) where
     reg-of : (s o i h : ℕ) → ItemFound ls (reg h (own (register_tag d s o) i)) → h < 64 → s < 8 → o < 8 → i < 2048 → Net ls Register (own (register_tag d s o) i) h
     reg-of s o i h found few a b c = reg-net ls found few (reg-plain s o i a b c)
 
-    few-o : (o : ℕ) → o < ports p → o < 8
+    pub few-o : (o : ℕ) → o < ports p → o < 8
     few-o o less = let few = few-ports p sound in omega (arith, few, less)
 
     -- ---- what is there
@@ -120,20 +120,20 @@ module _ (p : Plan) (n : ℕ) (sound : IsSound p) (inside : n < tiles p) where
       pub push : Wire ls (leaf_names.buffer d port c).push 0 (at d (at_local port 13 10) port + 2 * c + 1)
       pub pop : Wire ls (leaf_names.buffer d port c).pop 0 (at d (at_local port 13 10) port + (2 * c + 1) + 1)
 
-    few-words : (leaf_sizes p).wh < 64
+    pub few-words : (leaf_sizes p).wh < 64
     few-words = let a = few-ports p sound in let b = few-dests in omega (arith, a, b)
 
-    few-index : (leaf_sizes p).bh < 64
+    pub few-index : (leaf_sizes p).bh < 64
     few-index = let a = index-few p.buffer in omega (arith, a)
 
-    few-count : (leaf_sizes p).lh < 64
+    pub few-count : (leaf_sizes p).lh < 64
     few-count = let a = count-few p.buffer in omega (arith, a)
 
-    low-tag : (port c : ℕ) → port < 7 → c < 8 → buffer_tag d port c < 1024
+    pub low-tag : (port c : ℕ) → port < 7 → c < 8 → buffer_tag d port c < 1024
     low-tag zero c a b = let e = few-d in omega (arith, e)
     low-tag (suc port) c a b = let e = few-d in omega (arith, e)
 
-    low-stage : (port : ℕ) → at_local port 13 10 < 16
+    pub low-stage : (port : ℕ) → at_local port 13 10 < 16
     low-stage zero = omega arith
     low-stage (suc port) = omega arith
 
@@ -171,10 +171,10 @@ module _ (p : Plan) (n : ℕ) (sound : IsSound p) (inside : n < tiles p) where
 
     -- ---- allocation
 
-    places : place_count (switch_size p d) - 1 ≡ high p d
+    pub places : place_count (switch_size p d) - 1 ≡ high p d
     places = let is = place_count-is p d (few-channels p d sound there).0 in omega (arith, is)
 
-    few-outs : (o : ℕ) → (1 ≤ out_count (alloc_size p d o)) × (out_count (alloc_size p d o) ≤ 8)
+    pub few-outs : (o : ℕ) → (1 ≤ out_count (alloc_size p d o)) × (out_count (alloc_size p d o) ≤ 8)
     few-outs zero = (omega arith, omega arith)
     few-outs (suc o) = let is = out-link p d (suc o) (few-channels p d sound there).0 (λ e. omega arith) in let some = links in (let a = some.0 in omega (arith, is, a), let b = some.1 in omega (arith, is, b))
 
@@ -278,16 +278,16 @@ module _ (p : Plan) (n : ℕ) (sound : IsSound p) (inside : n < tiles p) where
         ++ (wire (place_count (switch_size p d) - 1) (net_names.leaves d) ∷ assign (net_names.leaves d) (cat (row_parts (λ port. net (net_names.granted d port)) (ports p - 1))) ∷ []))
     after-outputs = all-back (ItemFound ls) (for_each (ports p - 1 + 1) (output_nets (switch_names leaf_names net_names d) (switch_size p d))) _ after-ports.1.1
 
-    few-places : place_count (switch_size p d) - 1 < 64
+    pub few-places : place_count (switch_size p d) - 1 < 64
     few-places = let is = places in let few = few-high in omega (arith, is, few)
 
-    few-links-high : link_channels p d - 1 < 64
+    pub few-links-high : link_channels p d - 1 < 64
     few-links-high = let few = links.1 in omega (arith, few)
 
-    few-ports-high : ports p - 1 < 64
+    pub few-ports-high : ports p - 1 < 64
     few-ports-high = let few = few-ports p sound in omega (arith, few)
 
-    low-port : (o : ℕ) → o < ports p - 1 + 1 → o < 8
+    pub low-port : (o : ℕ) → o < ports p - 1 + 1 → o < 8
     low-port o less = let few = few-ports p sound in omega (arith, few, less)
 
     pub all : Wire ls (net_names.all d) (place_count (switch_size p d) - 1) (at d 2 0 + 0 + 1)
@@ -344,7 +344,7 @@ module _ (p : Plan) (n : ℕ) (sound : IsSound p) (inside : n < tiles p) where
     link-has zero h = absurd (no-local p n h.1)
     link-has (suc o) h = h.1
 
-    few-word : channel_bits p + flit_bits p < 64
+    pub few-word : channel_bits p + flit_bits p < 64
     few-word =
         let a = few-dests in
         let b : channel_bits p ≤ 3 = bits-few 3 (max_link_channels p) (omega arith) (most-links p.domains (λ k x less. (sound.channels k x less).1)) in
@@ -412,14 +412,14 @@ module _ (p : Plan) (n : ℕ) (sound : IsSound p) (inside : n < tiles p) where
       attach-heads : AllByRecursion (ItemFound ls) (attach_group p n d (attach_names leaf_names net_names d) (port_names n) (attach_size p (leaf_sizes p) (dest_bits p) d)).heads
       attach-heads = heads-of p n sound inside (attach_group p n d (attach_names leaf_names net_names d) (port_names n) (attach_size p (leaf_sizes p) (dest_bits p) d)) attach-member
 
-      few-current : current_high (channels p d) < 64
+      pub few-current : current_high (channels p d) < 64
       few-current = go (nat_le (channels p d) 2)
         where
           go : (b : Bool) → (if b then 0 else 1) < 64
           go true = omega arith
           go false = omega arith
 
-      few-dest : dest_bits p - 1 < 64
+      pub few-dest : dest_bits p - 1 < 64
       few-dest = let few = few-dests in omega (arith, few)
 
       pub passing : Net ls Register (leaf_names.passing d) 0

@@ -15,3 +15,5 @@ mod Walk
 mod Plainly
 mod Facts
 mod Domain
+mod Shared
+mod Items
