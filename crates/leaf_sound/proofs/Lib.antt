@@ -17,3 +17,4 @@ mod Facts
 mod Domain
 mod Shared
 mod Items
+mod SharedItems
