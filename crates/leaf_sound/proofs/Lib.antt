@@ -18,3 +18,4 @@ mod Domain
 mod Shared
 mod Items
 mod SharedItems
+mod DomainItems
