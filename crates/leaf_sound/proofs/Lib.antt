@@ -19,3 +19,4 @@ mod Shared
 mod Items
 mod SharedItems
 mod DomainItems
+mod SwitchItems
