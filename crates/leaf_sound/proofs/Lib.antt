@@ -20,3 +20,4 @@ mod Items
 mod SharedItems
 mod DomainItems
 mod SwitchItems
+mod LinkItems
