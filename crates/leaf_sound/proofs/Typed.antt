@@ -34,7 +34,7 @@ pub record UseIs (lines : List Line) (u : Use) : Type 0 where
 abbrev pub Reads : List Line → (Name → Type 0) → Name → Type 0
 Reads lines P m = (is_kind is_net lines m ≡ true) × P m
 
-less-true : (a b : ℕ) → a < b → nat_lt a b ≡ true
+pub less-true : (a b : ℕ) → a < b → nat_lt a b ≡ true
 less-true a b h = grind (arith, nat_tests)
 
 most-true : (a b : ℕ) → a ≤ b → nat_le a b ≡ true
