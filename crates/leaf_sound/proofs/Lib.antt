@@ -21,3 +21,6 @@ mod SharedItems
 mod DomainItems
 mod SwitchItems
 mod LinkItems
+mod AllItems
+mod OutItems
+mod Priors
