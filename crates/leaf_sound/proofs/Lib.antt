@@ -24,3 +24,4 @@ mod LinkItems
 mod AllItems
 mod OutItems
 mod Priors
+mod Heads

@@ -9,6 +9,8 @@ use Rattle.vl_tree.specs.Tokens.{is_name}
 use Rattle.vl_model.specs.declared.kind.Kind.TheVariants.{Output, Inner, Register}
 use Rattle.vl_model.specs.Lines.{Line, declared, lookup}
 use Rattle.vl_model.specs.Lines as given_lines
+use Rattle.vl_tree.specs.Values as given_items
+use Rattle.vl_model.specs.Rules.{is_kind}
 use Rattle.vl_model.proofs.Together.{all-join}
 use Rattle.noc_model.specs.declared.plan.DomainPart.{DomainPart}
 use Rattle.noc_model.specs.Plan.{Plan, tiles, ports, hosts, channels, link_channels, classes, all_link_channels, channels_in}
@@ -34,6 +36,15 @@ use Rattle.leaf_sound.proofs.Shared as shared
 use Rattle.leaf_sound.proofs.Shared.{of-host, of-link}
 use Rattle.leaf_sound.proofs.LinkItems as linked
 use Rattle.leaf_sound.proofs.Items.{Backed, backed-join}
+
+-- an assign to an output port, right among the lines
+abbrev pub OutIs : List Line → Item → Type 0
+OutIs ls (assign n e) = AssignIs ls n e × (is_kind given_lines.is_output ls n ≡ true)
+OutIs ls (given_items.wire h n) = ⊥
+OutIs ls (given_items.reg h n) = ⊥
+OutIs ls (given_items.mem h n last) = ⊥
+OutIs ls (given_items.clocked n k e) = ⊥
+OutIs ls (given_items.store c n i e) = ⊥
 
 -- ---- whose credit it is
 
@@ -85,8 +96,8 @@ module _ (p : Plan) (n : ℕ) (sound : IsSound p) (inside : n < tiles p) where
       omega (arith, below)
 
   -- an assign to an output port
-  out-is : {x : Name} {e : Expr} {h d : ℕ} → Net lines Output x h → Is lines (May lines x) e (h + 1) d → d ≤ 200 → AssignIs lines x e
-  out-is {x} {e} {h} {d} target value le = record { h = h; kind = Output; target = target; is_its = refl; value = deeper lines (May lines x) 200 le value }
+  out-is : {x : Name} {e : Expr} {h d : ℕ} → Net lines Output x h → Is lines (May lines x) e (h + 1) d → d ≤ 200 → OutIs lines (assign x e)
+  out-is {x} {e} {h} {d} target value le = (record { h = h; kind = Output; target = target; is_its = refl; value = deeper lines (May lines x) 200 le value }, ap (given_lines.kind_passes given_lines.is_output) target.found)
 
   out-net : {x : Name} {h : ℕ} → lookup lines x ≡ Some (record { name = x; kind = Output; high = h; last = 0 }) → h < 64 → is_name x ≡ true → Net lines Output x h
   out-net found few plain = record { found = found; few = few; plain = plain; is_its = refl }
@@ -107,14 +118,14 @@ module _ (p : Plan) (n : ℕ) (sound : IsSound p) (inside : n < tiles p) where
         let low = its.1 in
         bit-is lines (May lines t) (credit_channel p r) x (by-register lines t x) (omega (arith, low))
 
-    word-out : AssignIs lines ((out_names n).link_out q) (net (leaf_names.row q (p.stages - 1)))
+    word-out : OutIs lines (assign ((out_names n).link_out q) (net (leaf_names.row q (p.stages - 1))))
     word-out =
         let few = shared.few-word-bits p n sound inside in
         let x = shared.row p n sound inside q link (p.stages - 1) (omega arith) in
         out-is (out-net link-ports.1.0 (omega (arith, few)) (pair-plain 108 111 n q refl refl small low-q))
         (wide-as lines (May lines ((out_names n).link_out q)) (let e : channel_bits p + flit_bits p + 1 ≡ link_bits p - 1 + 1 = omega arith in e) (net-is lines (May lines ((out_names n).link_out q)) x (by-register lines ((out_names n).link_out q) x))) (omega arith)
 
-    first-out : AllByRecursion (ItemIs lines) (credit_bundle p n q 0 (min (credit_bits p) 64)).nets
+    first-out : AllByRecursion (OutIs lines) (credit_bundle p n q 0 (min (credit_bits p) 64)).nets
     first-out =
         let m = min-facts (credit_bits p) some-credit in
         let a = m.0 in let b = m.1 in let c = m.2 in
@@ -123,7 +134,7 @@ module _ (p : Plan) (n : ℕ) (sound : IsSound p) (inside : n < tiles p) where
         (wide-as lines (May lines (name_with (codes "co") (n ∷ q ∷ []))) (let e : (min (credit_bits p) 64 - 1 + 1) * 1 ≡ min (credit_bits p) 64 - 1 + 1 = omega arith in e)
         (row-is lines (May lines (name_with (codes "co") (n ∷ q ∷ []))) (min (credit_bits p) 64 - 1) 1 1 (λ k le. pulse-bit (name_with (codes "co") (n ∷ q ∷ [])) (0 + k) (omega (arith, a, c, le))) (omega arith) (omega (arith, a, b)))) (omega arith), tt)
 
-    second-out : nat_lt 64 (credit_bits p) ≡ true → AllByRecursion (ItemIs lines) (credit_bundle p n q 64 (credit_bits p - 64)).nets
+    second-out : nat_lt 64 (credit_bits p) ≡ true → AllByRecursion (OutIs lines) (credit_bundle p n q 64 (credit_bits p - 64)).nets
     second-out above =
         let far : 64 < credit_bits p = grind (arith, nat_tests, above) in
         let few = shared.few-credits p n sound inside in
@@ -133,11 +144,11 @@ module _ (p : Plan) (n : ℕ) (sound : IsSound p) (inside : n < tiles p) where
         (wide-as lines (May lines (name_with (codes "co") (n ∷ q ∷ 1 ∷ []))) (let e : (credit_bits p - 64 - 1 + 1) * 1 ≡ credit_bits p - 64 - 1 + 1 = omega arith in e)
         (row-is lines (May lines (name_with (codes "co") (n ∷ q ∷ 1 ∷ []))) (credit_bits p - 64 - 1) 1 1 (λ k le. pulse-bit (name_with (codes "co") (n ∷ q ∷ 1 ∷ [])) (64 + k) (omega (arith, far, le))) (omega arith) (omega (arith, far, few)))) (omega arith), tt)
 
-    link-outs : AllByRecursion (ItemIs lines) (flat_map (λ (g : Group). g.nets) (link_outs p n q))
-    link-outs = (word-out, all-join (ItemIs lines) (credit_bundle p n q 0 (min (credit_bits p) 64)).nets _ first-out (rest (nat_lt 64 (credit_bits p)) refl))
+    link-outs : AllByRecursion (OutIs lines) (flat_map (λ (g : Group). g.nets) (link_outs p n q))
+    link-outs = (word-out, all-join (OutIs lines) (credit_bundle p n q 0 (min (credit_bits p) 64)).nets _ first-out (rest (nat_lt 64 (credit_bits p)) refl))
       where
-        rest : (b : Bool) → nat_lt 64 (credit_bits p) ≡ b → AllByRecursion (ItemIs lines) (flat_map (λ (g : Group). g.nets) (if b then credit_bundle p n q 64 (credit_bits p - 64) ∷ [] else []))
-        rest true above = all-join (ItemIs lines) (credit_bundle p n q 64 (credit_bits p - 64)).nets [] (second-out above) tt
+        rest : (b : Bool) → nat_lt 64 (credit_bits p) ≡ b → AllByRecursion (OutIs lines) (flat_map (λ (g : Group). g.nets) (if b then credit_bundle p n q 64 (credit_bits p - 64) ∷ [] else []))
+        rest true above = all-join (OutIs lines) (credit_bundle p n q 64 (credit_bits p - 64)).nets [] (second-out above) tt
         rest false one = tt
 
   -- ---- attachments
@@ -149,7 +160,7 @@ module _ (p : Plan) (n : ℕ) (sound : IsSound p) (inside : n < tiles p) where
     its-ports : AllByRecursion (λ q. LineFound lines (declared (given_lines.port q))) (host_ports (record { tile = n; domain = d }))
     its-ports = of-host p n (λ q. LineFound lines (declared (given_lines.port q))) d host (ports-found p n sound inside)
 
-    local-outs : AllByRecursion (ItemIs lines) (local_out_group p leaf_names net_names (out_names n) (leaf_sizes p) (dest_bits p) d).nets
+    local-outs : AllByRecursion (OutIs lines) (local_out_group p leaf_names net_names (out_names n) (leaf_sizes p) (dest_bits p) d).nets
     local-outs =
         let e = facts.ejected p n sound inside d there host in
         let may : (t : Name) → May lines t (leaf_names.ejected d) = λ t. by-register lines t e in
@@ -169,23 +180,23 @@ module _ (p : Plan) (n : ℕ) (sound : IsSound p) (inside : n < tiles p) where
 
   -- ---- all of them
 
-  outs-each : (k : ℕ) (f : ℕ → List Group) → ((i : ℕ) → i < k → AllByRecursion (ItemIs lines) (flat_map (λ (g : Group). g.nets) (f i))) → AllByRecursion (ItemIs lines) (flat_map (λ (g : Group). g.nets) (each_group k f))
+  outs-each : (k : ℕ) (f : ℕ → List Group) → ((i : ℕ) → i < k → AllByRecursion (OutIs lines) (flat_map (λ (g : Group). g.nets) (f i))) → AllByRecursion (OutIs lines) (flat_map (λ (g : Group). g.nets) (each_group k f))
   outs-each zero f h = tt
   outs-each (suc k) f h =
-      subst (AllByRecursion (ItemIs lines)) (sym (Rattle.leaf_sound.proofs.Rising.flat-append (λ (g : Group). g.nets) (each_group k f) (f k)))
-      (all-join (ItemIs lines) (flat_map (λ (g : Group). g.nets) (each_group k f)) (flat_map (λ (g : Group). g.nets) (f k)) (outs-each k f (λ i less. h i (omega arith))) (h k (omega arith)))
+      subst (AllByRecursion (OutIs lines)) (sym (Rattle.leaf_sound.proofs.Rising.flat-append (λ (g : Group). g.nets) (each_group k f) (f k)))
+      (all-join (OutIs lines) (flat_map (λ (g : Group). g.nets) (each_group k f)) (flat_map (λ (g : Group). g.nets) (f k)) (outs-each k f (λ i less. h i (omega arith))) (h k (omega arith)))
 
-  outs-if : (b : Bool) (xs : List Group) → (b ≡ true → AllByRecursion (ItemIs lines) (flat_map (λ (g : Group). g.nets) xs)) → AllByRecursion (ItemIs lines) (flat_map (λ (g : Group). g.nets) (if b then xs else []))
+  outs-if : (b : Bool) (xs : List Group) → (b ≡ true → AllByRecursion (OutIs lines) (flat_map (λ (g : Group). g.nets) xs)) → AllByRecursion (OutIs lines) (flat_map (λ (g : Group). g.nets) (if b then xs else []))
   outs-if true xs h = h refl
   outs-if false xs h = tt
 
-  pub outs-good : AllByRecursion (ItemIs lines) (flat_map (λ (g : Group). g.nets) (out_groups p n))
+  pub outs-good : AllByRecursion (OutIs lines) (flat_map (λ (g : Group). g.nets) (out_groups p n))
   outs-good =
-      subst (AllByRecursion (ItemIs lines)) (sym (Rattle.leaf_sound.proofs.Rising.flat-append (λ (g : Group). g.nets) (each_group (ports p) (λ o. if is_some (neighbour p n o) then link_outs p n o else [])) (each_group (length p.domains) (λ d. if hosts p n d then local_out_group p leaf_names net_names (out_names n) (leaf_sizes p) (dest_bits p) d ∷ [] else []))))
-      (all-join (ItemIs lines) _ _
+      subst (AllByRecursion (OutIs lines)) (sym (Rattle.leaf_sound.proofs.Rising.flat-append (λ (g : Group). g.nets) (each_group (ports p) (λ o. if is_some (neighbour p n o) then link_outs p n o else [])) (each_group (length p.domains) (λ d. if hosts p n d then local_out_group p leaf_names net_names (out_names n) (leaf_sizes p) (dest_bits p) d ∷ [] else []))))
+      (all-join (OutIs lines) _ _
       (outs-each (ports p) (λ o. if is_some (neighbour p n o) then link_outs p n o else []) (λ q low. outs-if (is_some (neighbour p n q)) (link_outs p n q) (λ some. link-outs q (low, some))))
       (outs-each (length p.domains) (λ d. if hosts p n d then local_out_group p leaf_names net_names (out_names n) (leaf_sizes p) (dest_bits p) d ∷ [] else []) (λ d there. outs-if (hosts p n d) (local_out_group p leaf_names net_names (out_names n) (leaf_sizes p) (dest_bits p) d ∷ [])
-      (λ host. all-join (ItemIs lines) (local_out_group p leaf_names net_names (out_names n) (leaf_sizes p) (dest_bits p) d).nets [] (local-outs d there host) tt))))
+      (λ host. all-join (OutIs lines) (local_out_group p leaf_names net_names (out_names n) (leaf_sizes p) (dest_bits p) d).nets [] (local-outs d there host) tt))))
 
 -- the output ports' items are assigns
 module _ (p : Plan) (n : ℕ) where
