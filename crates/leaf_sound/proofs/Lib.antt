@@ -25,3 +25,4 @@ mod AllItems
 mod OutItems
 mod Priors
 mod Heads
+mod Readied
