@@ -26,3 +26,5 @@ mod OutItems
 mod Priors
 mod Heads
 mod Readied
+mod Sounded
+mod Joint

@@ -272,18 +272,23 @@ module _ (p : Plan) (n : ℕ) (sound : IsSound p) (inside : n < tiles p) (d : �
       }) in
       let empty = two-is lines (May lines (leaf_names.buffer d port c).empty) Equal (reg-in lines (leaf_names.buffer d port c).empty b.count) (number-is lines (May lines (leaf_names.buffer d port c).empty) ((leaf_sizes p).lh + 1) 0 (omega arith) (omega (arith, few)) (pow-pos ((leaf_sizes p).lh + 1))) in
       let stored : Good lines (store (net (leaf_names.buffer d port c).push) (leaf_names.buffer d port c).memory (net (leaf_names.buffer d port c).write) (net (leaf_names.buffer d port c).word) ∷ []) =
-      record { all = (record {
-        j = (leaf_sizes p).bh + 1;
-        k = (leaf_sizes p).wh + 1;
-        enable = deeper lines (Any lines) 200 (omega arith) push_net;
-        index = deeper lines (Any lines) 200 (omega arith) write;
-        value = deeper lines (Any lines) 200 (omega arith) value;
-        word = word_wide;
-        memory = known;
-        count = words;
-        plain = b.memory_plain;
-        no_use = refl;
-      }, tt) } in
+      record {
+        all = (
+          record {
+            j = (leaf_sizes p).bh + 1;
+            k = (leaf_sizes p).wh + 1;
+            enable = deeper lines (Any lines) 200 (omega arith) push_net;
+            index = deeper lines (Any lines) 200 (omega arith) write;
+            value = deeper lines (Any lines) 200 (omega arith) value;
+            word = word_wide;
+            memory = known;
+            count = words;
+            plain = b.memory_plain;
+            no_use = refl;
+          },
+          tt,
+        );
+      } in
       let moved : Good lines (Rattle.gen_buffer.specs.Fifo.fifo_moves (leaf_names.buffer d port c) (leaf_sizes p).bh (leaf_sizes p).lh) =
       clocked-next lines b.read (choose-is lines (Any lines) (deeper lines (Any lines) 2 (omega arith) pop_net) (two-is lines (Any lines) Add read step) (deeper lines (Any lines) 2 (omega arith) read)) (omega arith) refl (pow-pos ((leaf_sizes p).bh + 1))
       (clocked-next lines b.write (choose-is lines (Any lines) (deeper lines (Any lines) 2 (omega arith) push_net) (two-is lines (Any lines) Add write step) (deeper lines (Any lines) 2 (omega arith) write)) (omega arith) refl (pow-pos ((leaf_sizes p).bh + 1))

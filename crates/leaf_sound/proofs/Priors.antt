@@ -107,21 +107,35 @@ moves-prior : (a : FifoNames) (bh lh : ℕ) (is : List Item) → Have a is → P
 moves-prior a bh lh is h1 =
     let h2 = grown (steps_by bh a.read a.pop) h1 in
     let h3 = grown (steps_by bh a.write a.push) h2 in
-    let h4 = grown (clocked_from_zero lh a.count (next_count a lh)) h3 in
-    ((h1.read, (h1.pop, (h1.read, (h1.read, tt))), tt),
-    ((h2.write, (h2.push, (h2.write, (h2.write, tt))), tt),
-    ((h3.count, (h3.push, (h3.pop, (h3.count, (h3.count, (h3.pop, (h3.count, (h3.count, tt))))))), tt),
-    ((h4.memory, (h4.push, tt), tt, (h4.write, tt), tt, (h4.word, tt), tt), tt))))
+    let h4 = grown (clocked_from_zero lh a.count (next_count a lh)) h3 in (
+      (h1.read, (h1.pop, (h1.read, (h1.read, tt))), tt),
+      (
+        (h2.write, (h2.push, (h2.write, (h2.write, tt))), tt),
+        (
+          (h3.count, (h3.push, (h3.pop, (h3.count, (h3.count, (h3.pop, (h3.count, (h3.count, tt))))))), tt),
+          ((h4.memory, (h4.push, tt), tt, (h4.write, tt), tt, (h4.word, tt), tt), tt),
+        ),
+      ),
+    )
 
 nets-prior : (a : FifoNames) (bh lh wh : ℕ) (is : List Item) → Have a is → Prior is (fifo_nets a lh wh ++ fifo_moves a bh lh)
 nets-prior a bh lh wh is h1 =
     let h2 = grown (wire wh a.front) h1 in
     let h3 = grown (assign a.front (word a.memory (net a.read))) h2 in
     let h4 = grown (wire 0 a.empty) h3 in
-    let h5 = grown (assign a.empty (two Equal (net a.count) (in_bits (lh + 1) 0))) h4 in
-    (tt, ((fresh-wire is wh a.front, (h2.read, tt), ((h2.memory, (h2.read, tt)), tt)),
-    (tt, ((fresh-wire ((is ++ wire wh a.front ∷ []) ++ assign a.front (word a.memory (net a.read)) ∷ []) 0 a.empty, (h4.count, tt), tt),
-    moves-prior a bh lh ((((is ++ wire wh a.front ∷ []) ++ assign a.front (word a.memory (net a.read)) ∷ []) ++ wire 0 a.empty ∷ []) ++ assign a.empty (two Equal (net a.count) (in_bits (lh + 1) 0)) ∷ []) h5))))
+    let h5 = grown (assign a.empty (two Equal (net a.count) (in_bits (lh + 1) 0))) h4 in (
+      tt,
+      (
+        (fresh-wire is wh a.front, (h2.read, tt), ((h2.memory, (h2.read, tt)), tt)),
+        (
+          tt,
+          (
+            (fresh-wire ((is ++ wire wh a.front ∷ []) ++ assign a.front (word a.memory (net a.read)) ∷ []) 0 a.empty, (h4.count, tt), tt),
+            moves-prior a bh lh ((((is ++ wire wh a.front ∷ []) ++ assign a.front (word a.memory (net a.read)) ∷ []) ++ wire 0 a.empty ∷ []) ++ assign a.empty (two Equal (net a.count) (in_bits (lh + 1) 0)) ∷ []) h5,
+          ),
+        ),
+      ),
+    )
 
 have-all : (a : FifoNames) (z : BufferSize) (is : List Item) → 1 ≤ declares a.word is
     → Have a ((((((is ++ wire 0 a.push ∷ []) ++ wire 0 a.pop ∷ []) ++ mem z.wh a.memory (2 ^ (z.bh + 1) - 1) ∷ []) ++ reg z.bh a.read ∷ []) ++ reg z.bh a.write ∷ []) ++ reg z.lh a.count ∷ [])
@@ -143,8 +157,10 @@ have-all a z is some =
     }
 
 pub buffer-priors : {W : Name → Type 0} (a : FifoNames) (z : BufferSize) (push pop : Expr) → W a.word → Priors W (buffer_group a z push pop).heads
-buffer-priors {W} a z push pop its = record { all = λ before has.
-    (tt, (tt, (tt, (tt, (tt, (tt, nets-prior a z.bh z.lh z.wh ((((((before ++ wire 0 a.push ∷ []) ++ wire 0 a.pop ∷ []) ++ mem z.wh a.memory (2 ^ (z.bh + 1) - 1) ∷ []) ++ reg z.bh a.read ∷ []) ++ reg z.bh a.write ∷ []) ++ reg z.lh a.count ∷ []) (have-all a z before (has a.word its)))))))) }
+buffer-priors {W} a z push pop its = record {
+  all = λ before has.
+      (tt, (tt, (tt, (tt, (tt, (tt, nets-prior a z.bh z.lh z.wh ((((((before ++ wire 0 a.push ∷ []) ++ wire 0 a.pop ∷ []) ++ mem z.wh a.memory (2 ^ (z.bh + 1) - 1) ∷ []) ++ reg z.bh a.read ∷ []) ++ reg z.bh a.write ∷ []) ++ reg z.lh a.count ∷ []) (have-all a z before (has a.word its))))))));
+}
 
 -- ---- groups
 

@@ -51,7 +51,7 @@ map-item [] b = refl
 map-item (x ∷ a) b = ap (λ z. item x ∷ z) (map-item a b)
 
 -- kinds apart
-register-driven : (k : Kind) → is_register k ≡ true → is_driven k ≡ false
+pub register-driven : (k : Kind) → is_register k ≡ true → is_driven k ≡ false
 register-driven Input e = refl
 register-driven Output e = absurd (cc e)
 register-driven Inner e = absurd (cc e)
@@ -67,7 +67,7 @@ memory-driven Register e = refl
 memory-driven Memory e = refl
 memory-driven Child e = refl
 
-apart : (test : Kind → Bool) → ((k : Kind) → test k ≡ true → is_driven k ≡ false) → (ls : List Line) (m : Name) → is_kind test ls m ≡ true → is_kind is_driven ls m ≡ false
+pub apart : (test : Kind → Bool) → ((k : Kind) → test k ≡ true → is_driven k ≡ false) → (ls : List Line) (m : Name) → is_kind test ls m ≡ true → is_kind is_driven ls m ≡ false
 apart test f ls m e = go (lookup ls m) e
   where
     go : (o : Option Declared) → kind_passes test o ≡ true → kind_passes is_driven o ≡ false
@@ -164,13 +164,13 @@ module _ (p : Plan) (n : ℕ) (sound : IsSound p) (inside : n < tiles p) where
   abbrev F : List Item → List Line
   F b = PL ++ map item b
 
-  abbrev H : List Item
+  abbrev pub H : List Item
   H = flat_map (λ (g : Group). g.heads) (inner_groups p n)
 
-  abbrev NO : List Item
+  abbrev pub NO : List Item
   NO = flat_map its_nets (inner_groups p n) ++ flat_map its_nets (out_groups p n)
 
-  abbrev M : List Item
+  abbrev pub M : List Item
   M = flat_map (λ (g : Group). g.moves) (inner_groups p n)
 
   -- the lines of the leaf
@@ -310,10 +310,15 @@ module _ (p : Plan) (n : ℕ) (sound : IsSound p) (inside : n < tiles p) where
   net-walk b [] low high e r k a g w = tt
   net-walk b (wire h t ∷ s) low high e r k a g w = (tt, subst (λ z. AllReady z s) (F-more b (wire h t)) (net-walk (b ++ wire h t ∷ []) s low high (K-more b s (wire h t) e) r k.1 (good-more b (wire h t) a g.0) g.1 w.1))
   net-walk b (assign t v ∷ s) low high e r k a g w =
-      let there = reads-there b s t v e low high r.1 k g.1 (nets_of v) g.0.value.reads in
-      ((target-there b s t v e low high r.1 k g.1 (ap (kind_passes is_driven) g.0.target.found ∙ g.0.is_its), there, uses-there b s t v e low high r.1 k g.1 (uses_of v) g.0.value.uses,
-      early-all b s t v e low high r.1 w.0 a (nets_of v) g.0.value.reads there),
-      subst (λ z. AllReady z s) (F-more b (assign t v)) (net-walk (b ++ assign t v ∷ []) s (rank t + 1) high (K-more b s (assign t v) e) r.1 k (good-more b (assign t v) a g.0) g.1 w.1))
+      let there = reads-there b s t v e low high r.1 k g.1 (nets_of v) g.0.value.reads in (
+        (
+          target-there b s t v e low high r.1 k g.1 (ap (kind_passes is_driven) g.0.target.found ∙ g.0.is_its),
+          there,
+          uses-there b s t v e low high r.1 k g.1 (uses_of v) g.0.value.uses,
+          early-all b s t v e low high r.1 w.0 a (nets_of v) g.0.value.reads there,
+        ),
+        subst (λ z. AllReady z s) (F-more b (assign t v)) (net-walk (b ++ assign t v ∷ []) s (rank t + 1) high (K-more b s (assign t v) e) r.1 k (good-more b (assign t v) a g.0) g.1 w.1),
+      )
   net-walk b (reg h t ∷ s) low high e r k a g w = absurd k
   net-walk b (mem h t last ∷ s) low high e r k a g w = absurd k
   net-walk b (clocked t c v ∷ s) low high e r k a g w = absurd k
@@ -335,15 +340,18 @@ module _ (p : Plan) (n : ℕ) (sound : IsSound p) (inside : n < tiles p) where
   head-walk b (reg h t ∷ s) low high e r k a g w = (tt, subst (λ z. AllReady z s) (F-more b (reg h t)) (head-walk (b ++ reg h t ∷ []) s low high (K-more b (s ++ NO) (reg h t) e) r k.1 (good-more b (reg h t) a g.0) g.1 w.1))
   head-walk b (mem h t last ∷ s) low high e r k a g w = (tt, subst (λ z. AllReady z s) (F-more b (mem h t last)) (head-walk (b ++ mem h t last ∷ []) s low high (K-more b (s ++ NO) (mem h t last) e) r k.1 (good-more b (mem h t last) a g.0) g.1 w.1))
   head-walk b (assign t v ∷ s) low high e r k a g w =
-      let there = lift b (nets_of v) k.0.1 in
-      (((let front = front-is t b in let some = k.0.0 in omega (arith, front, some)), there, lift-uses b (uses_of v) k.0.2, early-all b (s ++ NO) t v e low high r.1 w.0 a (nets_of v) g.0.value.reads there),
-      subst (λ z. AllReady z s) (F-more b (assign t v)) (head-walk (b ++ assign t v ∷ []) s (rank t + 1) high (K-more b (s ++ NO) (assign t v) e) r.1 k.1 (good-more b (assign t v) a g.0) g.1 w.1))
-  head-walk b (clocked t c v ∷ s) low high e r k a g w =
-      (((let front = front-is t b in let some = k.0.0 in omega (arith, front, some)), lift b (nets_of v) k.0.1, lift-uses b (uses_of v) k.0.2),
-      subst (λ z. AllReady z s) (F-more b (clocked t c v)) (head-walk (b ++ clocked t c v ∷ []) s (rank t + 1) high (K-more b (s ++ NO) (clocked t c v) e) r.1 k.1 (good-more b (clocked t c v) a g.0) g.1 w.1))
-  head-walk b (store c t i v ∷ s) low high e r k a g w =
-      (((let front = front-is t b in let some = k.0.0 in omega (arith, front, some)), lift b (nets_of c) k.0.1, lift-uses b (uses_of c) k.0.2, lift b (nets_of i) k.0.3, lift-uses b (uses_of i) k.0.4, lift b (nets_of v) k.0.5, lift-uses b (uses_of v) k.0.6),
-      subst (λ z. AllReady z s) (F-more b (store c t i v)) (head-walk (b ++ store c t i v ∷ []) s (rank t + 1) high (K-more b (s ++ NO) (store c t i v) e) r.1 k.1 (good-more b (store c t i v) a g.0) g.1 w.1))
+      let there = lift b (nets_of v) k.0.1 in (
+        ((let front = front-is t b in let some = k.0.0 in omega (arith, front, some)), there, lift-uses b (uses_of v) k.0.2, early-all b (s ++ NO) t v e low high r.1 w.0 a (nets_of v) g.0.value.reads there),
+        subst (λ z. AllReady z s) (F-more b (assign t v)) (head-walk (b ++ assign t v ∷ []) s (rank t + 1) high (K-more b (s ++ NO) (assign t v) e) r.1 k.1 (good-more b (assign t v) a g.0) g.1 w.1),
+      )
+  head-walk b (clocked t c v ∷ s) low high e r k a g w = (
+    ((let front = front-is t b in let some = k.0.0 in omega (arith, front, some)), lift b (nets_of v) k.0.1, lift-uses b (uses_of v) k.0.2),
+    subst (λ z. AllReady z s) (F-more b (clocked t c v)) (head-walk (b ++ clocked t c v ∷ []) s (rank t + 1) high (K-more b (s ++ NO) (clocked t c v) e) r.1 k.1 (good-more b (clocked t c v) a g.0) g.1 w.1),
+  )
+  head-walk b (store c t i v ∷ s) low high e r k a g w = (
+    ((let front = front-is t b in let some = k.0.0 in omega (arith, front, some)), lift b (nets_of c) k.0.1, lift-uses b (uses_of c) k.0.2, lift b (nets_of i) k.0.3, lift-uses b (uses_of i) k.0.4, lift b (nets_of v) k.0.5, lift-uses b (uses_of v) k.0.6),
+    subst (λ z. AllReady z s) (F-more b (store c t i v)) (head-walk (b ++ store c t i v ∷ []) s (rank t + 1) high (K-more b (s ++ NO) (store c t i v) e) r.1 k.1 (good-more b (store c t i v) a g.0) g.1 w.1),
+  )
 
   -- ---- moves
 
@@ -369,13 +377,22 @@ module _ (p : Plan) (n : ℕ) (sound : IsSound p) (inside : n < tiles p) where
 
   move-walk : (b s : List Item) → (H ++ NO) ++ M ≡ b ++ s → AllMove s → AllByRecursion (ItemIs L) s → AllReady (F b) s
   move-walk b [] e m g = tt
-  move-walk b (clocked t c v ∷ s) e m g =
-      ((all-there b (clocked t c v ∷ s) e m t (known is_register t (ap (kind_passes is_register) g.0.target.found)), all-given b (clocked t c v ∷ s) e m (Any L) (nets_of v) g.0.value.reads, all-uses b (clocked t c v ∷ s) e m (Any L) (uses_of v) g.0.value.uses),
-      subst (λ z. AllReady z s) (F-more b (clocked t c v)) (move-walk (b ++ clocked t c v ∷ []) s (e ∙ sym (append_assoc b (clocked t c v ∷ []) s)) m.1 g.1))
-  move-walk b (store c t i v ∷ s) e m g =
-      ((all-there b (store c t i v ∷ s) e m t (known is_memory t g.0.memory), all-given b (store c t i v ∷ s) e m (Any L) (nets_of c) g.0.enable.reads, all-uses b (store c t i v ∷ s) e m (Any L) (uses_of c) g.0.enable.uses,
-      all-given b (store c t i v ∷ s) e m (Any L) (nets_of i) g.0.index.reads, all-uses b (store c t i v ∷ s) e m (Any L) (uses_of i) g.0.index.uses, all-given b (store c t i v ∷ s) e m (Any L) (nets_of v) g.0.value.reads, all-uses b (store c t i v ∷ s) e m (Any L) (uses_of v) g.0.value.uses),
-      subst (λ z. AllReady z s) (F-more b (store c t i v)) (move-walk (b ++ store c t i v ∷ []) s (e ∙ sym (append_assoc b (store c t i v ∷ []) s)) m.1 g.1))
+  move-walk b (clocked t c v ∷ s) e m g = (
+    (all-there b (clocked t c v ∷ s) e m t (known is_register t (ap (kind_passes is_register) g.0.target.found)), all-given b (clocked t c v ∷ s) e m (Any L) (nets_of v) g.0.value.reads, all-uses b (clocked t c v ∷ s) e m (Any L) (uses_of v) g.0.value.uses),
+    subst (λ z. AllReady z s) (F-more b (clocked t c v)) (move-walk (b ++ clocked t c v ∷ []) s (e ∙ sym (append_assoc b (clocked t c v ∷ []) s)) m.1 g.1),
+  )
+  move-walk b (store c t i v ∷ s) e m g = (
+    (
+      all-there b (store c t i v ∷ s) e m t (known is_memory t g.0.memory),
+      all-given b (store c t i v ∷ s) e m (Any L) (nets_of c) g.0.enable.reads,
+      all-uses b (store c t i v ∷ s) e m (Any L) (uses_of c) g.0.enable.uses,
+      all-given b (store c t i v ∷ s) e m (Any L) (nets_of i) g.0.index.reads,
+      all-uses b (store c t i v ∷ s) e m (Any L) (uses_of i) g.0.index.uses,
+      all-given b (store c t i v ∷ s) e m (Any L) (nets_of v) g.0.value.reads,
+      all-uses b (store c t i v ∷ s) e m (Any L) (uses_of v) g.0.value.uses,
+    ),
+    subst (λ z. AllReady z s) (F-more b (store c t i v)) (move-walk (b ++ store c t i v ∷ []) s (e ∙ sym (append_assoc b (store c t i v ∷ []) s)) m.1 g.1),
+  )
   move-walk b (wire h t ∷ s) e m g = absurd m.0
   move-walk b (reg h t ∷ s) e m g = absurd m.0
   move-walk b (mem h t last ∷ s) e m g = absurd m.0
