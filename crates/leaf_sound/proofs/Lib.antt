@@ -28,3 +28,4 @@ mod Heads
 mod Readied
 mod Sounded
 mod Joint
+mod Running

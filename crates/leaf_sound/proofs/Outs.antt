@@ -141,13 +141,13 @@ module _ (p : Plan) (n : ℕ) (sound : IsSound p) (inside : n < tiles p) where
     pub high : q.output ≡ true → out_start ≤ rank q.name
     pub output : q.output ≡ true → 1 ≤ driven q.name (flat_map its_nets (out_groups p n))
 
-  local-member : (d : ℕ) → d < length p.domains → hosts p n d ≡ true → Member (local_out_group p leaf_names net_names (out_names n) (leaf_sizes p) (dest_bits p) d) (out_groups p n)
+  pub local-member : (d : ℕ) → d < length p.domains → hosts p n d ≡ true → Member (local_out_group p leaf_names net_names (out_names n) (leaf_sizes p) (dest_bits p) d) (out_groups p n)
   local-member d less there =
       in-back (local_out_group p leaf_names net_names (out_names n) (leaf_sizes p) (dest_bits p) d) (each_group (ports p) (λ o. if is_some (neighbour p n o) then link_outs p n o else [])) _
       (in-each (local_out_group p leaf_names net_names (out_names n) (leaf_sizes p) (dest_bits p) d) (length p.domains) (λ d. if hosts p n d then local_out_group p leaf_names net_names (out_names n) (leaf_sizes p) (dest_bits p) d ∷ [] else []) d less
       (in-then (local_out_group p leaf_names net_names (out_names n) (leaf_sizes p) (dest_bits p) d) (hosts p n d) (local_out_group p leaf_names net_names (out_names n) (leaf_sizes p) (dest_bits p) d ∷ []) [] there (inl refl)))
 
-  link-member : (g : Group) (q : ℕ) → q < ports p → is_some (neighbour p n q) ≡ true → Member g (link_outs p n q) → Member g (out_groups p n)
+  pub link-member : (g : Group) (q : ℕ) → q < ports p → is_some (neighbour p n q) ≡ true → Member g (link_outs p n q) → Member g (out_groups p n)
   link-member g q less there m =
       in-front g (each_group (ports p) (λ o. if is_some (neighbour p n o) then link_outs p n o else [])) _
       (in-each g (ports p) (λ o. if is_some (neighbour p n o) then link_outs p n o else []) q less (in-then g (is_some (neighbour p n q)) (link_outs p n q) [] there m))
