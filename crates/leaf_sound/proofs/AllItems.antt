@@ -1,35 +1,18 @@
 -- All items of a leaf are right among its lines.
-use Rattle.std.proofs.Common.{◌≡◌, ◌≢◌, ℕ, zero, suc, ◌+◌, ◌-◌, ◌*◌, ◌^◌, ◌<◌, ◌≤◌, ◌⊎◌, inl, inr, Bool, true, false, List, [], ◌∷◌, ◌++◌, length, refl, sym, ◌∙◌, ap, subst, arith, Option, Some, None, is_some, nat_lt, nat_le, min, codes, if◌then◌else◌, flat_map, slice_get}
-use Rattle.std.specs.List.{AllByRecursion}
-use Rattle.std.proofs.lemmas.Bool.Decides.{nat_tests}
-use Rattle.std.proofs.lemmas.List.Sums.{sum_by-cons}
-use Rattle.vl_tree.specs.declared.tree.Op.TheVariants.{Or}
-use Rattle.vl_tree.specs.Values.{Name, Expr, Item, net, bit, part, two, cat, assign}
-use Rattle.vl_tree.specs.Tokens.{is_name}
-use Rattle.vl_model.specs.declared.kind.Kind.TheVariants.{Output, Inner, Register}
-use Rattle.vl_model.specs.Lines.{Line, port, declared, lookup}
-use Rattle.vl_model.proofs.Together.{all-join}
-use Rattle.noc_model.specs.declared.plan.DomainPart.{DomainPart}
-use Rattle.noc_model.specs.Plan.{Plan, tiles, ports, hosts, channels, link_channels, in_channels, classes, all_link_channels, channels_in}
+use Rattle.std.proofs.Common.{◌≡◌, ℕ, zero, suc, ◌<◌, List, [], ◌∷◌, length, ap, arith, Some, is_some}
+use Rattle.vl_model.specs.Lines.{Line}
+use Rattle.noc_model.specs.Plan.{Plan, tiles, ports, hosts, channels, link_channels}
 use Rattle.noc_model.specs.Place.{neighbour}
 use Rattle.noc_model.specs.Sound.{IsSound}
-use Rattle.flit_word.specs.Words.{dest_bits, channel_bits, flit_bits, link_bits}
-use Rattle.gen_kit.specs.Families.{row_parts}
-use Rattle.gen_kit.specs.Groups.{Group}
-use Rattle.gen_kit.specs.Ports.{name_with, host_ports}
-use Rattle.gen_kit.specs.Shape.{credit_bits, second_ties, link_ties, Tied}
-use Rattle.leaf_tie.specs.Outs.{link_out_group, local_out_group}
+use Rattle.flit_word.specs.Words.{dest_bits, channel_bits, flit_bits}
 use Rattle.leaf_tie.specs.Tie.{HasLink}
 use Rattle.leaf_tie.specs.Glue.{has_port}
 use Rattle.leaf_tie.specs.Whole.{each_group, domain_groups, slot_groups, shared_groups}
-use Rattle.leaf_tie.specs.Names.{leaf_names, net_names, port_names, out_names, credit_base, credit_domain, credit_channel, credit_domain_below, leaf_sizes, slot_high, credit_bundle, link_outs, inner_groups, out_groups}
-use Rattle.leaf_sound.proofs.Inner.{few-channels, few-links, few-ports}
-use Rattle.leaf_sound.proofs.Typed.{Net, Is, net-is, bit-is, part-is, two-is, deeper, wide-as, row-is}
-use Rattle.leaf_sound.proofs.Walk.{May, Any, ItemIs, AssignIs}
+use Rattle.leaf_tie.specs.Names.{leaf_names, net_names, port_names, credit_base, leaf_sizes, inner_groups}
+use Rattle.leaf_sound.proofs.Inner.{few-channels}
 use Rattle.leaf_sound.proofs.Domain as facts
 use Rattle.leaf_sound.proofs.Domain.{ls, by-register}
-use Rattle.leaf_sound.proofs.Facts.{port-is}
-use Rattle.leaf_sound.proofs.Items.{Good, GoodNets, good-nil, nets-nil, reg-next, wire-next, GoodGroups, no-groups, group-next, groups-join, groups-each, groups-if, groups-neighbour}
+use Rattle.leaf_sound.proofs.Items.{GoodNets, good-nil, nets-nil, reg-next, GoodGroups, no-groups, group-next, groups-join, groups-each, groups-if, groups-neighbour}
 use Rattle.leaf_sound.proofs.SharedItems.{slots-good, shared-good}
 use Rattle.leaf_sound.proofs.DomainItems as before
 use Rattle.leaf_sound.proofs.SwitchItems as switched

@@ -1,8 +1,8 @@
 -- The sizes of a plan's leaf.
-use Rattle.std.proofs.Common.{◌≡◌, ℕ, zero, suc, ◌+◌, ◌-◌, ◌*◌, ◌^◌, ◌<◌, ◌≤◌, ◌⊎◌, inl, inr, ◌∙◌, ap, Bool, true, false, length, refl, sym, subst, arith, lit≤, nat_lt, if◌then◌else◌}
+use Rattle.std.proofs.Common.{◌≡◌, ℕ, zero, suc, ◌+◌, ◌-◌, ◌^◌, ◌<◌, ◌≤◌, ◌⊎◌, inl, inr, ◌∙◌, ap, Bool, true, false, length, refl, sym, subst, arith, lit≤, nat_lt, if◌then◌else◌}
 use Rattle.std.specs.Prelude.{nat_le}
 use Rattle.std.proofs.lemmas.Bool.Decides.{nat_tests}
-use Rattle.noc_model.specs.Plan.{Plan, tiles, link_channels}
+use Rattle.noc_model.specs.Plan.{Plan, tiles}
 use Rattle.noc_model.specs.Sound.{IsSound}
 use Rattle.flit_word.specs.Words.{bits, bits_from, dest_bits, channel_bits, flit_bits, max_link_channels}
 use Rattle.flit_word.proofs.Bits.{link_channels-most}

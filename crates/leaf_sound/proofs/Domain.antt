@@ -1,11 +1,11 @@
 -- What a domain's groups declare, with ranks: the nets and registers of a leaf by their names.
-use Rattle.std.proofs.Common.{◌≡◌, ◌≢◌, ℕ, zero, suc, ◌+◌, ◌-◌, ◌*◌, ◌^◌, ◌<◌, ◌≤◌, ◌⊎◌, inl, inr, Bool, true, false, List, [], ◌∷◌, ◌++◌, length, refl, sym, ◌∙◌, ap, subst, arith, Option, Some, None, is_some, slice_index_or, nat_le, if◌then◌else◌}
+use Rattle.std.proofs.Common.{◌≡◌, ℕ, zero, suc, ◌+◌, ◌-◌, ◌*◌, ◌^◌, ◌<◌, ◌≤◌, ◌⊎◌, inl, inr, Bool, true, false, List, [], ◌∷◌, ◌++◌, length, refl, sym, ◌∙◌, ap, subst, arith, Option, Some, None, is_some, slice_index_or, nat_le, if◌then◌else◌}
 use Rattle.std.specs.List.{AllByRecursion}
 use Rattle.vl_tree.specs.declared.tree.Op.TheVariants.{And, Or}
-use Rattle.vl_tree.specs.Values.{Name, Expr, Item, wire, reg, mem, assign, net, bit, part, not, two, choose, cat}
+use Rattle.vl_tree.specs.Values.{Name, Expr, wire, reg, assign, net, bit, part, not, two, choose, cat}
 use Rattle.vl_tree.specs.Tokens.{is_name}
-use Rattle.vl_model.specs.declared.kind.Kind.TheVariants.{Input, Inner, Register, Memory}
-use Rattle.vl_model.specs.Lines.{Line, item, declared, lookup, kind_passes, is_register, is_output}
+use Rattle.vl_model.specs.declared.kind.Kind.TheVariants.{Inner, Register, Memory}
+use Rattle.vl_model.specs.Lines.{Line, lookup, kind_passes, is_register, is_output}
 use Rattle.vl_model.proofs.Passed.{all-front, all-back}
 use Rattle.noc_model.specs.declared.Range.{Range}
 use Rattle.noc_model.specs.declared.plan.DomainPart.{DomainPart}
@@ -14,29 +14,29 @@ use Rattle.noc_model.specs.Place.{neighbour}
 use Rattle.noc_model.specs.Sound.{IsSound}
 use Rattle.flit_word.specs.Words.{dest_bits, channel_bits, flit_bits, max_channels, max_link_channels}
 use Rattle.gen_kit.specs.Families.{for_each, or_upto, row_parts, defined}
-use Rattle.gen_kit.specs.Groups.{Group, all_items}
+use Rattle.gen_kit.specs.Groups.{Group}
 use Rattle.gen_kit.specs.Rotate.{rotate_group}
 use Rattle.leaf_tie.specs.Alloc.{alloc_group, class_nets, taken_nets, asks_class, out_count}
 use Rattle.leaf_tie.specs.Switch.{switch_group, port_nets, output_nets, grant_nets, place_count}
 use Rattle.leaf_tie.specs.Buffers.{buffer_group}
 use Rattle.leaf_tie.specs.Counts.{idle_group, credit_group}
 use Rattle.leaf_tie.specs.Attach.{attach_group, enter_at, look_nets, looked, room_expr, entry_word, reach}
-use Rattle.leaf_tie.specs.Tie.{HasLink, HasPort, alloc_size}
-use Rattle.leaf_tie.specs.Glue.{switch_names, switch_size, attach_names, attach_size, current_high, high, out_high, has_port, has_place, filled_group, tails_group, led_group, ends_group, ready_group, unready_group, on_group, freed_group, flit_group, word_group, eject_group, pulse_group, link_push, pop_of}
+use Rattle.leaf_tie.specs.Tie.{HasLink, alloc_size}
+use Rattle.leaf_tie.specs.Glue.{switch_names, switch_size, attach_names, attach_size, current_high, high, out_high, has_port, filled_group, tails_group, led_group, ends_group, ready_group, unready_group, on_group, freed_group, flit_group, word_group, eject_group, pulse_group, link_push, pop_of}
 use Rattle.leaf_tie.specs.Whole.{each_group, channel_groups, local_groups}
 use Rattle.leaf_tie.specs.Names.{own, buffer_tag, net_tag, register_tag, leaf_names, net_names, port_names, credit_base, leaf_sizes, slot_high, inner_groups}
 use Rattle.leaf_tie.proofs.Members.{Member, in-back}
 use Rattle.leaf_tie.proofs.Grouped.{in-domain, before, unready-member, middle, behind, sent, channel, linked-member, local, entered-member}
-use Rattle.leaf_tie.proofs.Glued.{link-there, port-has}
+use Rattle.leaf_tie.proofs.Glued.{port-has}
 use Rattle.leaf_tie.proofs.Sized.{place_count-is, out-link}
 use Rattle.leaf_sound.proofs.Keyed.{rank}
-use Rattle.leaf_sound.proofs.Ranked.{at, from, net-rank, register-rank, no-local, front-rank, empty-rank}
-use Rattle.leaf_sound.proofs.Bits.{bits-few, bits-some, index-few, count-few}
+use Rattle.leaf_sound.proofs.Ranked.{at, net-rank, no-local, front-rank, empty-rank}
+use Rattle.leaf_sound.proofs.Bits.{bits-few, index-few, count-few}
 use Rattle.leaf_sound.proofs.Inner.{few-classes, few-channels, few-links, few-ports, few-ranges}
 use Rattle.leaf_sound.proofs.Typed.{Net, Is, net-is}
-use Rattle.leaf_sound.proofs.Walk.{May, Any}
+use Rattle.leaf_sound.proofs.Walk.{May}
 use Rattle.leaf_sound.proofs.Plainly.{own-plain}
-use Rattle.leaf_sound.proofs.Facts.{LineFound, ItemFound, lines, heads-of, nets-of, each-has, port-is}
+use Rattle.leaf_sound.proofs.Facts.{ItemFound, lines, heads-of, nets-of, each-has, port-is}
 
 -- ---- a wire with its rank, a register
 

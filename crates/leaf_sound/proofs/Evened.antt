@@ -1,5 +1,5 @@
 -- What a leaf's groups declare, they drive: each group declares each name as often as it drives it.
-use Rattle.std.proofs.Common.{◌≡◌, ℕ, zero, suc, ◌+◌, ◌-◌, ◌*◌, ◌^◌, ◌<◌, Bool, true, false, List, [], ◌∷◌, ◌++◌, map, length, refl, sym, ◌∙◌, ap, arith, flat_map, Option, Some, None, if◌then◌else◌, bytes_eq, is_some}
+use Rattle.std.proofs.Common.{◌≡◌, ℕ, zero, suc, ◌+◌, ◌-◌, ◌*◌, ◌^◌, Bool, true, false, List, [], ◌∷◌, ◌++◌, map, length, refl, sym, ◌∙◌, ap, arith, flat_map, Option, Some, None, if◌then◌else◌, bytes_eq, is_some}
 use Rattle.vl_tree.specs.declared.tree.Const.{Const}
 use Rattle.vl_tree.specs.declared.tree.Op.TheVariants.{And, Or}
 use Rattle.vl_tree.specs.Values.{Name, Expr, Item, net, not, bit, part, two, cat, choose, wire, reg, mem, assign, clocked, store}
@@ -14,10 +14,10 @@ use Rattle.gen_kit.specs.Families.{for_each, or_upto, row_parts, defined, in_bit
 use Rattle.gen_kit.specs.Rotate.{rotate_group, pointer_moves, is_empty, behind_member}
 use Rattle.gen_kit.specs.Groups.{Group, all_items}
 use Rattle.gen_buffer.specs.Fifo.{FifoNames}
-use Rattle.leaf_tie.specs.Alloc.{AllocNames, AllocSize, class_start, zero_of, asks_class, out_count, class_nets, taken_nets, active_move, active_moves, alloc_group}
+use Rattle.leaf_tie.specs.Alloc.{AllocNames, AllocSize, class_start, zero_of, asks_class, out_count, class_nets, taken_nets, alloc_group}
 use Rattle.leaf_tie.specs.Attach.{AttachNames, AttachSize, enter_at, look_nets, looked, in_range, room_expr, entry_word, reach, attach_group}
 use Rattle.leaf_tie.specs.Buffers.{BufferSize, buffer_group}
-use Rattle.leaf_tie.specs.Links.{LinkNames, owners_word, link_group}
+use Rattle.leaf_tie.specs.Links.{LinkNames, link_group}
 use Rattle.leaf_tie.specs.Slots.{SlotNames, owned_nets, slot_group}
 use Rattle.leaf_tie.specs.Switch.{place_count, SwitchNames, SwitchSize, port_nets, output_nets, grant_nets, switch_group}
 use Rattle.leaf_tie.specs.Tie.{LeafNames, PortNames, alloc_size}

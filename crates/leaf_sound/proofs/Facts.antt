@@ -1,24 +1,20 @@
 -- What the lines of a leaf declare: each name of its own, by the groups that declare it.
-use Rattle.std.proofs.Common.{◌≡◌, ◌≢◌, ℕ, zero, suc, ◌+◌, ◌-◌, ◌*◌, ◌^◌, ◌<◌, ◌≤◌, ◌⊎◌, inl, inr, Bool, true, false, List, [], ◌∷◌, ◌++◌, map, length, refl, sym, ◌∙◌, ap, subst, arith, Option, Some, None, bytes_eq, is_some, append_assoc, flat_map, if◌then◌else◌}
+use Rattle.std.proofs.Common.{◌≡◌, ℕ, zero, suc, ◌+◌, ◌<◌, ◌≤◌, ◌⊎◌, inl, inr, Bool, true, false, List, [], ◌∷◌, ◌++◌, map, refl, sym, ◌∙◌, ap, subst, arith, Option, Some, None, bytes_eq, append_assoc, if◌then◌else◌}
 use Rattle.std.specs.List.{AllByRecursion}
 use Rattle.vl_tree.specs.declared.tree.Port.{Port}
-use Rattle.vl_tree.specs.Values.{Name, Item, wire, reg, mem, assign, clocked, store}
-use Rattle.vl_tree.specs.Tokens.{is_name}
+use Rattle.vl_tree.specs.Values.{Name, Item}
 use Rattle.vl_model.specs.Meaning.{one_if}
-use Rattle.vl_model.specs.declared.kind.Kind.{Kind}
-use Rattle.vl_model.specs.declared.kind.Kind.TheVariants.{Input, Output, Inner, Register, Memory}
-use Rattle.vl_model.specs.Lines.{Line, heading, port, item, leaf_lines, Declared, declared, found, lookup, way_of}
+use Rattle.vl_model.specs.Lines.{Line, port, item, leaf_lines, Declared, declared, found, lookup}
 use Rattle.vl_model.proofs.Passed.{all-front, all-back}
 use Rattle.vl_model.proofs.Settling.{itself}
-use Rattle.noc_model.specs.Plan.{Plan, tiles, ports, hosts, channels, link_channels}
-use Rattle.noc_model.specs.Place.{neighbour}
+use Rattle.noc_model.specs.Plan.{Plan, tiles, ports}
 use Rattle.noc_model.specs.Sound.{IsSound}
 use Rattle.gen_kit.specs.Families.{for_each}
 use Rattle.gen_kit.specs.Groups.{Group, all_items}
 use Rattle.gen_kit.specs.Shape.{tile_head}
-use Rattle.leaf_tie.specs.Tie.{HasLink, HasPort}
+use Rattle.leaf_tie.specs.Tie.{HasPort}
 use Rattle.leaf_tie.specs.Glue.{has_port}
-use Rattle.leaf_tie.specs.Names.{own, inner_groups, out_groups, leaf_module}
+use Rattle.leaf_tie.specs.Names.{inner_groups, out_groups, leaf_module}
 use Rattle.leaf_tie.proofs.Members.{Member, in-front, its-heads, its-nets}
 use Rattle.leaf_sound.proofs.Named.{given, given-append, not-found, given-once, all-map-to}
 

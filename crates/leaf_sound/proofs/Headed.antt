@@ -1,18 +1,18 @@
 -- Among what the groups of a domain declare, the buffers' registers and memories are driven in rising order.
-use Rattle.std.proofs.Common.{◌≡◌, ℕ, zero, suc, ◌+◌, ◌-◌, ◌*◌, ◌<◌, ◌≤◌, true, List, [], ◌∷◌, ◌++◌, refl, sym, subst, ap, arith, is_some, Some}
+use Rattle.std.proofs.Common.{◌≡◌, ℕ, zero, suc, ◌+◌, ◌-◌, ◌*◌, ◌<◌, ◌≤◌, List, [], ◌∷◌, refl, sym, subst, ap, arith, is_some, Some}
 use Rattle.vl_tree.specs.Values.{Name, Expr, Item, reg}
-use Rattle.noc_model.specs.Plan.{Plan, channels, link_channels, classes, ports, hosts}
+use Rattle.noc_model.specs.Plan.{Plan, channels, link_channels, ports, hosts}
 use Rattle.noc_model.specs.Place.{neighbour}
 use Rattle.gen_kit.specs.Families.{for_each}
 use Rattle.gen_kit.specs.Groups.{Group}
 use Rattle.gen_buffer.specs.Fifo.{FifoNames}
-use Rattle.leaf_tie.specs.Alloc.{alloc_group, out_count}
+use Rattle.leaf_tie.specs.Alloc.{out_count}
 use Rattle.leaf_tie.specs.Attach.{attach_group, enter_at}
 use Rattle.leaf_tie.specs.Buffers.{BufferSize, buffer_group}
 use Rattle.leaf_tie.specs.Switch.{switch_group}
 use Rattle.leaf_tie.specs.Tie.{PortNames, alloc_size}
-use Rattle.leaf_tie.specs.Glue.{switch_names, switch_size, attach_names, attach_size, has_port, word_group, pulse_group, link_push, pop_of}
-use Rattle.leaf_tie.specs.Whole.{each_group, before_switch, behind_switch, channel_groups, sent_groups, link_buffers, local_groups, domain_groups}
+use Rattle.leaf_tie.specs.Glue.{switch_names, switch_size, attach_names, attach_size, has_port, link_push, pop_of}
+use Rattle.leaf_tie.specs.Whole.{each_group, before_switch, behind_switch, sent_groups, link_buffers, local_groups, domain_groups}
 use Rattle.leaf_tie.specs.Names.{own, buffer_tag, leaf_names, net_names, alloc_names}
 use Rattle.leaf_sound.proofs.Rising.{Rises, nothing, net-next, clocked-next, store-next, wire-next, reg-next, mem-next, wider, join, each, GroupsRise, no-groups, groups-join, group-next, groups-wider, groups-each, groups-if, groups-neighbour}
 use Rattle.leaf_sound.proofs.Ranked.{buffer_at, no-local, front-rank, empty-rank, read-rank, write-rank, count-rank, memory-rank}

@@ -1,5 +1,5 @@
 -- What the heads of a leaf use stands before it, group by group; and the moves declare nothing.
-use Rattle.std.proofs.Common.{◌≡◌, ℕ, zero, suc, ◌+◌, ◌-◌, ◌<◌, ◌≤◌, ◌⊎◌, inl, inr, Bool, true, false, List, [], ◌∷◌, ◌++◌, length, refl, sym, ◌∙◌, ap, subst, arith, Option, Some, None, is_some, flat_map, if◌then◌else◌}
+use Rattle.std.proofs.Common.{◌≡◌, ℕ, zero, suc, ◌+◌, ◌-◌, ◌<◌, ◌≤◌, ◌⊎◌, inl, inr, Bool, true, false, List, [], ◌∷◌, ◌++◌, length, sym, ap, subst, arith, Option, Some, None, is_some, flat_map, if◌then◌else◌}
 use Rattle.std.specs.List.{AllByRecursion}
 use Rattle.vl_tree.specs.Values.{Name, Item, wire, reg, mem, assign, clocked, store, net}
 use Rattle.vl_model.proofs.Together.{all-join}
@@ -17,10 +17,10 @@ use Rattle.leaf_tie.specs.Links.{link_group}
 use Rattle.leaf_tie.specs.Tie.{HasLink, alloc_size}
 use Rattle.leaf_tie.specs.Glue.{switch_names, switch_size, link_names, attach_names, attach_size, has_port, arrival_group, link_push, pop_of}
 use Rattle.leaf_tie.specs.Whole.{each_group, to_neighbour, uses_slot, domain_groups, shared_groups}
-use Rattle.leaf_tie.specs.Names.{leaf_names, net_names, port_names, credit_base, leaf_sizes, slot_high, inner_groups}
-use Rattle.leaf_sound.proofs.Evened.{declares, declares-append, part-declares}
+use Rattle.leaf_tie.specs.Names.{leaf_names, net_names, port_names, credit_base, leaf_sizes, inner_groups}
+use Rattle.leaf_sound.proofs.Evened.{declares, part-declares}
 use Rattle.leaf_sound.proofs.Ranked.{no-local}
-use Rattle.leaf_sound.proofs.Priors.{Priors, priors-nil, priors-wire, priors-reg, priors-join, priors-each, buffer-priors, GroupsPrior, no-groups, group-next, group-then, groups-join, groups-then, groups-each, groups-if, groups-neighbour}
+use Rattle.leaf_sound.proofs.Priors.{priors-nil, priors-wire, priors-reg, priors-join, priors-each, buffer-priors, GroupsPrior, no-groups, group-next, group-then, groups-join, groups-then, groups-each, groups-if, groups-neighbour}
 
 -- what one group list declares among many
 each-declares : (x : Name) (k : ℕ) (f : ℕ → List Group) (i : ℕ) → i < k → declares x (flat_map (λ (g : Group). g.heads) (f i)) ≤ declares x (flat_map (λ (g : Group). g.heads) (each_group k f))

@@ -1,10 +1,9 @@
 -- All groups of a leaf but those of its output ports drive names in rising order, so each name once.
-use Rattle.std.proofs.Common.{◌≡◌, ℕ, zero, suc, ◌+◌, ◌-◌, ◌*◌, ◌<◌, ◌≤◌, true, false, Bool, List, [], ◌∷◌, ◌++◌, length, map, refl, arith, is_some, filter}
+use Rattle.std.proofs.Common.{ℕ, suc, ◌+◌, ◌-◌, ◌*◌, ◌<◌, ◌≤◌, true, false, Bool, List, [], ◌∷◌, length, map, refl, arith, is_some, filter}
 use Rattle.std.specs.Prelude.{if◌then◌else◌}
-use Rattle.std.proofs.lemmas.Bool.Decides.{nat_tests}
 use Rattle.std.proofs.lemmas.Nat.{mul-le}
 use Rattle.std.proofs.lemmas.Option.{slice_get-get_or}
-use Rattle.vl_tree.specs.Values.{Name, Item, wire, assign, reg}
+use Rattle.vl_tree.specs.Values.{Name}
 use Rattle.noc_model.specs.declared.Range.{Range}
 use Rattle.noc_model.specs.declared.plan.DomainPart.{DomainPart}
 use Rattle.noc_model.specs.Plan.{Plan, channels, link_channels, classes, ports, hosts}
@@ -13,16 +12,14 @@ use Rattle.noc_model.specs.Sound.{IsSound}
 use Rattle.flit_word.specs.Words.{dest_bits, channel_bits, flit_bits}
 use Rattle.vl_model.specs.Lines.{item}
 use Rattle.vl_model.specs.Rules.{drivers}
-use Rattle.gen_kit.specs.Families.{for_each}
-use Rattle.gen_kit.specs.Groups.{Group, all_items}
+use Rattle.gen_kit.specs.Groups.{all_items}
 use Rattle.leaf_tie.specs.Attach.{reach}
 use Rattle.leaf_tie.specs.Links.{link_group}
-use Rattle.leaf_tie.specs.Slots.{slot_group}
 use Rattle.leaf_tie.specs.Glue.{link_names}
 use Rattle.leaf_tie.specs.Whole.{uses_slot, slot_groups, shared_groups}
-use Rattle.leaf_tie.specs.Names.{own, owns_tag, arrival_tag, slot_tag, row_tag, leaf_names, net_names, port_names, credit_base, leaf_sizes, slot_high, inner_groups}
-use Rattle.leaf_sound.proofs.Keyed.{rank, rank-net}
-use Rattle.leaf_sound.proofs.Rising.{Rises, nothing, net-next, assign-next, clocked-next, wire-next, reg-next, wider, join, each, once, GroupsRise, no-groups, groups-join, group-next, groups-wider, groups-each, groups-if}
+use Rattle.leaf_tie.specs.Names.{owns_tag, arrival_tag, slot_tag, row_tag, leaf_names, net_names, port_names, credit_base, leaf_sizes, slot_high, inner_groups}
+use Rattle.leaf_sound.proofs.Keyed.{rank-net}
+use Rattle.leaf_sound.proofs.Rising.{Rises, nothing, net-next, assign-next, clocked-next, wire-next, wider, join, each, once, GroupsRise, no-groups, groups-join, group-next, groups-wider, groups-each, groups-if}
 use Rattle.leaf_sound.proofs.Ranked.{at, from, buffer_at}
 use Rattle.leaf_sound.proofs.Nets.{its_nets, nets-rise}
 use Rattle.leaf_sound.proofs.Moved.{its_moves, moves-rise}

@@ -1,5 +1,5 @@
 -- Items that are right among the lines of a leaf, put together.
-use Rattle.std.proofs.Common.{◌≡◌, ℕ, zero, suc, ◌+◌, ◌-◌, ◌*◌, ◌^◌, ◌<◌, ◌≤◌, Bool, true, false, List, [], ◌∷◌, ◌++◌, map, refl, sym, ◌∙◌, ap, subst, arith, Option, Some, None, flat_map, if◌then◌else◌, bytes_eq}
+use Rattle.std.proofs.Common.{◌≡◌, ℕ, zero, suc, ◌+◌, ◌^◌, ◌<◌, ◌≤◌, Bool, true, false, List, [], ◌∷◌, ◌++◌, refl, sym, ap, subst, arith, Option, Some, None, flat_map, if◌then◌else◌, bytes_eq}
 use Rattle.std.specs.List.{AllByRecursion}
 use Rattle.vl_tree.specs.declared.tree.Const.{Const}
 use Rattle.vl_tree.specs.Values.{Name, Expr, Item, wire, reg, mem, assign, clocked, store}
@@ -14,7 +14,7 @@ use Rattle.leaf_tie.specs.Whole.{each_group, to_neighbour}
 use Rattle.leaf_sound.proofs.Evened.{declares, driven, driven-append}
 use Rattle.leaf_sound.proofs.Rising.{flat-append}
 use Rattle.leaf_sound.proofs.Typed.{Net, Is, deeper}
-use Rattle.leaf_sound.proofs.Walk.{May, Any, ItemIs, AssignIs, ClockedIs, StoreIs}
+use Rattle.leaf_sound.proofs.Walk.{May, Any, ItemIs, AssignIs}
 use Rattle.leaf_sound.proofs.Domain.{Wire}
 
 -- wires and assigns alone, each wire assigned after it

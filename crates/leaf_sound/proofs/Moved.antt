@@ -1,21 +1,21 @@
 -- The registers of a domain are driven in rising order.
-use Rattle.std.proofs.Common.{◌≡◌, ℕ, zero, suc, ◌+◌, ◌-◌, ◌*◌, ◌<◌, ◌≤◌, true, List, [], ◌∷◌, ◌++◌, refl, sym, subst, arith, is_some}
+use Rattle.std.proofs.Common.{◌≡◌, ℕ, zero, suc, ◌+◌, ◌-◌, ◌*◌, ◌<◌, ◌≤◌, List, [], ◌∷◌, refl, sym, subst, arith, is_some}
 use Rattle.std.proofs.lemmas.Nat.{mul-le}
 use Rattle.vl_tree.specs.declared.tree.Const.{Const}
 use Rattle.vl_tree.specs.Values.{Expr, Item, clocked}
-use Rattle.noc_model.specs.Plan.{Plan, channels, link_channels, classes, ports, hosts}
+use Rattle.noc_model.specs.Plan.{Plan, channels, link_channels, ports, hosts}
 use Rattle.noc_model.specs.Place.{neighbour}
 use Rattle.gen_kit.specs.Families.{for_each}
 use Rattle.gen_kit.specs.Groups.{Group}
-use Rattle.leaf_tie.specs.Alloc.{AllocSize, out_count, class_start, alloc_group, active_move, active_moves}
+use Rattle.leaf_tie.specs.Alloc.{out_count, alloc_group, active_move}
 use Rattle.leaf_tie.specs.Attach.{attach_group}
 use Rattle.leaf_tie.specs.Buffers.{BufferSize}
 use Rattle.leaf_tie.specs.Switch.{switch_group}
 use Rattle.leaf_tie.specs.Tie.{PortNames, alloc_size}
-use Rattle.leaf_tie.specs.Glue.{switch_names, switch_size, attach_names, attach_size, has_port, word_group, pulse_group}
-use Rattle.leaf_tie.specs.Whole.{each_group, before_switch, behind_switch, channel_groups, sent_groups, link_buffers, local_groups, domain_groups}
+use Rattle.leaf_tie.specs.Glue.{switch_names, switch_size, attach_names, attach_size, has_port}
+use Rattle.leaf_tie.specs.Whole.{before_switch, behind_switch, sent_groups, link_buffers, local_groups, domain_groups}
 use Rattle.leaf_tie.specs.Names.{own, register_tag, leaf_names, net_names, alloc_names}
-use Rattle.leaf_tie.proofs.Sized.{out-local, out-link}
+use Rattle.leaf_tie.proofs.Sized.{out-link}
 use Rattle.leaf_sound.proofs.Rising.{Rises, nothing, clocked-next, wider, join, each, GroupsRise, no-groups, groups-join, group-next, groups-wider, groups-each, groups-if, groups-neighbour}
 use Rattle.leaf_sound.proofs.Ranked.{from, register-rank}
 

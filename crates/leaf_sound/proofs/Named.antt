@@ -1,17 +1,16 @@
 -- In a leaf each name is declared once, and each but an input port is driven once.
-use Rattle.std.proofs.Common.{◌≡◌, ◌≢◌, ℕ, zero, suc, ◌+◌, ◌-◌, ◌*◌, ◌^◌, ◌<◌, ◌≤◌, ◌⊎◌, inl, inr, Bool, true, false, ◌&&◌, ◌||◌, List, [], ◌∷◌, ◌++◌, map, length, refl, sym, ◌∙◌, ap, subst, arith, lit≤, flat_map, Option, Some, None, bytes_eq, ◌==◌, nat_lt, is_some, append_assoc}
+use Rattle.std.proofs.Common.{◌≡◌, ℕ, zero, suc, ◌+◌, ◌-◌, ◌*◌, ◌<◌, ◌≤◌, Bool, true, false, ◌&&◌, List, [], ◌∷◌, ◌++◌, map, length, refl, sym, ◌∙◌, ap, arith, flat_map, Option, Some, None, bytes_eq, ◌==◌, nat_lt, is_some, append_assoc}
 use Rattle.std.specs.Prelude.{not, min, if◌then◌else◌}
 use Rattle.std.specs.List.{AllByRecursion}
 use Rattle.std.proofs.lemmas.Bool.Decides.{nat_tests}
 use Rattle.std.proofs.lemmas.List.{append-nil}
 use Rattle.vl_tree.specs.declared.tree.Port.{Port}
-use Rattle.vl_tree.specs.declared.tree.TopItem.TheVariants.{Wire, Instance}
-use Rattle.vl_tree.specs.Values.{Name, Item, wire, reg, mem, assign, clocked, store, Leaf}
+use Rattle.vl_tree.specs.Values.{Name, Item, wire, reg, mem, assign, clocked, store}
 use Rattle.vl_model.specs.Meaning.{one_if}
 use Rattle.vl_model.specs.declared.kind.Kind.{Kind}
-use Rattle.vl_model.specs.declared.kind.Kind.TheVariants.{Input, Output, Inner, Register, Memory}
+use Rattle.vl_model.specs.declared.kind.Kind.TheVariants.{Inner, Register, Memory}
 use Rattle.vl_model.specs.Lines.{Line, heading, port, item, joint, leaf_lines, Site, sites_behind, module_sites, Declared, declared, found, lookup, way_of}
-use Rattle.vl_model.specs.Rules.{drivers, repeats, is_again, name_twice, lacks_driver, wants_driver, wrong_driver, line_joins, wrong_joins}
+use Rattle.vl_model.specs.Rules.{drivers, repeats, is_again, name_twice, lacks_driver, wants_driver, wrong_driver, wrong_joins}
 use Rattle.vl_model.proofs.Passed.{Passes}
 use Rattle.vl_model.proofs.Settling.{one-name, itself}
 use Rattle.vl_model.proofs.Ordered.{drivers-append}

@@ -1,6 +1,6 @@
 -- The nets of a domain are driven in rising order.
-use Rattle.std.proofs.Common.{◌≡◌, ℕ, zero, suc, ◌+◌, ◌-◌, ◌*◌, ◌<◌, ◌≤◌, true, List, [], ◌∷◌, ◌++◌, length, ◌∙◌, ap, arith, Some, is_some}
-use Rattle.vl_tree.specs.Values.{Name, Expr, Item, wire, assign}
+use Rattle.std.proofs.Common.{◌≡◌, ℕ, zero, suc, ◌+◌, ◌-◌, ◌*◌, ◌<◌, ◌≤◌, true, List, [], ◌∷◌, ◌++◌, length, ap, arith, Some, is_some}
+use Rattle.vl_tree.specs.Values.{Expr, Item, wire, assign}
 use Rattle.noc_model.specs.declared.Range.{Range}
 use Rattle.noc_model.specs.Plan.{Plan, channels, link_channels, classes, ports, hosts}
 use Rattle.noc_model.specs.Place.{neighbour}
@@ -13,7 +13,6 @@ use Rattle.leaf_tie.specs.Tie.{PortNames, alloc_size}
 use Rattle.leaf_tie.specs.Glue.{switch_names, switch_size, attach_names, attach_size, has_port, word_group, pulse_group, link_push, pop_of}
 use Rattle.leaf_tie.specs.Whole.{each_group, before_switch, behind_switch, channel_groups, sent_groups, link_buffers, local_groups, domain_groups}
 use Rattle.leaf_tie.specs.Names.{own, net_tag, leaf_names, net_names, alloc_names}
-use Rattle.leaf_sound.proofs.Keyed.{rank}
 use Rattle.leaf_sound.proofs.Rising.{Rises, nothing, net-next, assign-next, wider, join, each, GroupsRise, no-groups, groups-join, group-next, groups-wider, groups-each, groups-if, groups-neighbour}
 use Rattle.leaf_sound.proofs.Ranked.{at, net-rank, no-local}
 

@@ -1,11 +1,10 @@
 -- The output ports of a leaf are driven once each, by groups that declare nothing.
-use Rattle.std.proofs.Common.{◌≡◌, ◌≢◌, ℕ, zero, suc, ◌+◌, ◌-◌, ◌*◌, ◌^◌, ◌<◌, ◌≤◌, ◌⊎◌, inl, inr, Bool, true, false, ◌||◌, List, [], ◌∷◌, ◌++◌, map, length, refl, sym, ◌∙◌, ap, subst, arith, lit≤, flat_map, filter, Option, Some, None, if◌then◌else◌, bytes_eq, ◌==◌, nat_lt, min, codes, slice_index_or, is_some, All}
+use Rattle.std.proofs.Common.{◌≡◌, ℕ, zero, suc, ◌+◌, ◌-◌, ◌*◌, ◌^◌, ◌<◌, ◌≤◌, inl, inr, Bool, true, false, ◌||◌, List, [], ◌∷◌, ◌++◌, map, length, refl, sym, ◌∙◌, ap, subst, arith, flat_map, filter, Option, Some, None, if◌then◌else◌, ◌==◌, nat_lt, min, codes, slice_index_or, is_some}
 use Rattle.std.specs.List.{AllByRecursion, list_any}
 use Rattle.std.proofs.lemmas.Bool.Decides.{nat_tests}
 use Rattle.vl_tree.specs.declared.tree.Port.{Port}
 use Rattle.vl_tree.specs.Values.{Name, Item}
 use Rattle.vl_model.specs.Meaning.{one_if}
-use Rattle.vl_model.proofs.Passed.{all-map}
 use Rattle.vl_model.proofs.Together.{all-join}
 use Rattle.vl_model.proofs.Settling.{itself}
 use Rattle.noc_model.specs.declared.Host.{Host}
@@ -14,9 +13,9 @@ use Rattle.noc_model.specs.Place.{neighbour, opposite}
 use Rattle.noc_model.specs.Sound.{IsSound}
 use Rattle.noc_model.specs.Events.{tabulate}
 use Rattle.flit_word.specs.Words.{dest_bits}
-use Rattle.gen_kit.specs.Groups.{Group, all_items}
+use Rattle.gen_kit.specs.Groups.{Group}
 use Rattle.gen_kit.specs.Ports.{host_ports, name_with}
-use Rattle.gen_kit.specs.Shape.{Tied, host_ties, link_ties, first_ties, second_ties, tile_ties, tile_head, credit_bits}
+use Rattle.gen_kit.specs.Shape.{Tied, host_ties, link_ties, second_ties, tile_head, credit_bits}
 use Rattle.leaf_tie.specs.Outs.{link_out_group, local_out_group}
 use Rattle.leaf_tie.specs.Whole.{each_group}
 use Rattle.leaf_tie.specs.Names.{leaf_names, net_names, out_names, leaf_sizes, credit_bundle, link_outs, out_groups}

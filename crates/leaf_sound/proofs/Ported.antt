@@ -1,20 +1,18 @@
 -- The ports of a leaf: each has a name of its own, and each output port is driven.
-use Rattle.std.proofs.Common.{◌≡◌, ◌≢◌, ℕ, zero, suc, ◌+◌, ◌-◌, ◌*◌, ◌^◌, ◌<◌, ◌≤◌, ◌⊎◌, inl, inr, Bool, true, false, ◌||◌, List, [], ◌∷◌, ◌++◌, map, length, refl, sym, ◌∙◌, ap, subst, arith, lit≤, flat_map, filter, Option, Some, None, if◌then◌else◌, bytes_eq, ◌==◌, nat_lt, min, codes, slice_index_or, is_some, All, AllPairs}
-use Rattle.std.specs.List.{AllByRecursion, list_any}
+use Rattle.std.proofs.Common.{◌≡◌, ℕ, zero, suc, ◌+◌, ◌*◌, ◌^◌, ◌<◌, ◌≤◌, inl, inr, Bool, true, false, List, [], ◌∷◌, ◌++◌, map, length, refl, sym, ◌∙◌, ap, subst, arith, lit≤, flat_map, filter, Option, Some, None, if◌then◌else◌, bytes_eq, ◌==◌, nat_lt, slice_index_or, All, AllPairs}
 use Rattle.std.proofs.lemmas.Bool.Decides.{nat_tests}
 use Rattle.vl_tree.specs.declared.tree.Port.{Port}
 use Rattle.vl_tree.specs.Values.{Name}
 use Rattle.vl_model.specs.Meaning.{one_if}
 use Rattle.vl_model.proofs.Settling.{one-name}
 use Rattle.noc_model.specs.declared.Host.{Host}
-use Rattle.noc_model.specs.Plan.{Plan, ports, tiles, hosts, is_host}
+use Rattle.noc_model.specs.Plan.{Plan, ports, tiles}
 use Rattle.noc_model.specs.Place.{neighbour, opposite}
 use Rattle.noc_model.specs.Sound.{IsSound, IsBefore}
 use Rattle.noc_model.specs.Events.{tabulate}
-use Rattle.flit_word.specs.Words.{link_bits}
-use Rattle.gen_kit.specs.Ports.{host_ports, host_port, port_kinds, name_with}
+use Rattle.gen_kit.specs.Ports.{host_ports}
 use Rattle.gen_kit.specs.Shape.{Tied, host_ties, link_ties, tile_ties, tile_head, credit_bits}
-use Rattle.leaf_sound.proofs.Keyed.{rank, place, place_by, port_code, two-place, three-place}
+use Rattle.leaf_sound.proofs.Keyed.{place, two-place, three-place}
 
 -- ---- ports in rising places
 

@@ -1,14 +1,11 @@
 -- What the heads of a leaf use stands before it, and its moves declare nothing.
-use Rattle.std.proofs.Common.{◌≡◌, ℕ, zero, suc, ◌+◌, ◌-◌, ◌*◌, ◌^◌, ◌<◌, ◌≤◌, ◌⊎◌, inl, inr, Bool, true, false, List, [], ◌∷◌, ◌++◌, length, refl, sym, ◌∙◌, ap, subst, arith, Option, Some, None, is_some, flat_map, if◌then◌else◌, bytes_eq, append_assoc}
+use Rattle.std.proofs.Common.{◌≡◌, ℕ, zero, suc, ◌+◌, ◌-◌, ◌^◌, ◌<◌, ◌≤◌, ◌⊎◌, inl, inr, Bool, true, false, List, [], ◌∷◌, ◌++◌, refl, sym, ap, subst, arith, Option, Some, None, flat_map, if◌then◌else◌, append_assoc}
 use Rattle.std.proofs.lemmas.List.{append-nil}
 use Rattle.std.specs.List.{AllByRecursion}
-use Rattle.vl_tree.specs.declared.tree.Const.{Const}
 use Rattle.vl_tree.specs.declared.tree.Op.TheVariants.{Equal}
 use Rattle.vl_tree.specs.Values.{Name, Expr, Item, wire, reg, mem, assign, clocked, store, net, word, two}
 use Rattle.vl_model.specs.Meaning.{Use, nets_of, uses_of, one_if}
 use Rattle.vl_model.proofs.Settling.{itself}
-use Rattle.noc_model.specs.Plan.{Plan, ports, hosts, channels, link_channels}
-use Rattle.noc_model.specs.Place.{neighbour}
 use Rattle.gen_kit.specs.Families.{for_each, in_bits}
 use Rattle.gen_kit.specs.Groups.{Group}
 use Rattle.gen_buffer.specs.Fifo.{FifoNames, fifo_nets, fifo_moves, steps_by, clocked_from_zero, next_count}

@@ -1,10 +1,10 @@
 -- The ranks of the names of a leaf, as sums.
-use Rattle.std.proofs.Common.{◌≡◌, ◌≢◌, ℕ, zero, suc, ◌+◌, ◌-◌, ◌*◌, ◌^◌, ◌<◌, ◌≤◌, Bool, true, false, refl, sym, ◌∙◌, subst, arith, nat_lt, ◌==◌}
+use Rattle.std.proofs.Common.{◌≡◌, ℕ, ◌+◌, ◌*◌, ◌<◌, true, ◌∙◌, arith, nat_lt}
 use Rattle.std.proofs.lemmas.Bool.Decides.{nat_tests}
 use Rattle.std.specs.Prelude.{is_some}
 use Rattle.noc_model.specs.Plan.{Plan}
 use Rattle.noc_model.specs.Place.{neighbour}
-use Rattle.leaf_tie.specs.Names.{own, net_tag, register_tag, buffer_tag}
+use Rattle.leaf_tie.specs.Names.{own, net_tag, register_tag}
 use Rattle.leaf_sound.proofs.Keyed.{rank, rank-own, rank-net}
 
 -- where the ranks of a stage's nets begin, and of a stage's registers, and of a buffer's names

@@ -1,19 +1,18 @@
 -- Each item of a leaf uses only what stands before it.
-use Rattle.std.proofs.Common.{◌≡◌, ◌≢◌, ℕ, zero, suc, ◌+◌, ◌-◌, ◌*◌, ◌^◌, ◌<◌, ◌≤◌, ◌⊎◌, inl, inr, Bool, true, false, ◌&&◌, ◌||◌, List, [], ◌∷◌, ◌++◌, map, length, refl, sym, ◌∙◌, ap, subst, arith, Option, Some, None, bytes_eq, ◌==◌, nat_lt, is_some, append_assoc, flat_map}
+use Rattle.std.proofs.Common.{◌≡◌, ℕ, ◌+◌, ◌-◌, ◌*◌, ◌<◌, ◌≤◌, ◌⊎◌, inl, inr, Bool, true, false, ◌&&◌, ◌||◌, List, [], ◌∷◌, ◌++◌, map, refl, sym, ◌∙◌, ap, subst, arith, Option, Some, None, bytes_eq, nat_lt, append_assoc, flat_map}
 use Rattle.std.specs.Prelude.{not}
 use Rattle.std.specs.List.{AllByRecursion, list_any}
 use Rattle.std.proofs.lemmas.Bool.Decides.{nat_tests}
 use Rattle.std.proofs.lemmas.List.{append-nil}
-use Rattle.vl_tree.specs.declared.tree.Port.{Port}
 use Rattle.vl_tree.specs.Values.{Name, Expr, Item, wire, reg, mem, assign, clocked, store}
 use Rattle.vl_model.specs.Meaning.{Use, nets_of, uses_of, one_if}
 use Rattle.vl_model.specs.declared.kind.Kind.{Kind}
 use Rattle.vl_model.specs.declared.kind.Kind.TheVariants.{Input, Output, Inner, Register, Memory, Child}
-use Rattle.vl_model.specs.Lines.{Line, heading, port, item, leaf_lines, module_sites, Declared, lookup, kind_passes, is_net, is_memory, is_register, is_output, is_driven}
+use Rattle.vl_model.specs.Lines.{Line, heading, port, item, Declared, lookup, kind_passes, is_net, is_memory, is_register, is_output, is_driven}
 use Rattle.vl_model.specs.Rules.{is_kind, is_early, assigns, drivers}
-use Rattle.vl_model.proofs.Passed.{all-front, all-back, all-map}
+use Rattle.vl_model.proofs.Passed.{all-back}
 use Rattle.vl_model.proofs.Together.{all-join}
-use Rattle.vl_model.proofs.Settling.{one-name, itself}
+use Rattle.vl_model.proofs.Settling.{one-name}
 use Rattle.vl_model.proofs.Ordered.{drivers-append, driven-once, driven-wants, kind-of}
 use Rattle.noc_model.specs.Plan.{Plan, tiles}
 use Rattle.noc_model.specs.Sound.{IsSound}
@@ -22,7 +21,7 @@ use Rattle.gen_kit.specs.Shape.{tile_head}
 use Rattle.gen_kit.specs.Work.{leaf_name}
 use Rattle.leaf_tie.specs.Names.{inner_groups, out_groups, leaf_module}
 use Rattle.leaf_sound.proofs.Keyed.{rank}
-use Rattle.leaf_sound.proofs.Rising.{RiseBy, joined, lower, higher, none-below, other-rank, ends-high}
+use Rattle.leaf_sound.proofs.Rising.{RiseBy, joined, lower, none-below, other-rank, ends-high}
 use Rattle.leaf_sound.proofs.Nets.{its_nets}
 use Rattle.leaf_sound.proofs.Evened.{declares, driven, declares-append, driven-append}
 use Rattle.leaf_sound.proofs.Inner as inner
@@ -30,12 +29,12 @@ use Rattle.leaf_sound.proofs.Outs.{out_start, outs-rise}
 use Rattle.leaf_sound.proofs.Named.{given, given-append, given-items, not-found, port-lines, drivers-pass, items-are}
 use Rattle.leaf_sound.proofs.Facts.{lines}
 use Rattle.leaf_sound.proofs.Typed.{Reads, UseIs}
-use Rattle.leaf_sound.proofs.Walk.{May, Any, ItemIs, AssignIs, Given, GivenUses, ReadyAt, AllReady, ready-join, same-found}
+use Rattle.leaf_sound.proofs.Walk.{May, Any, ItemIs, Given, GivenUses, AllReady, ready-join, same-found}
 use Rattle.leaf_sound.proofs.Items.{Backed, backed-join, backed-drives}
 use Rattle.leaf_sound.proofs.AllItems.{inner-good}
 use Rattle.leaf_sound.proofs.OutItems.{OutIs, outs-good, outs-backed}
 use Rattle.leaf_sound.proofs.Priors.{Prior, Before, BeforeUses}
-use Rattle.leaf_sound.proofs.Heads.{IsMove, AllMove, all-move, heads-prior}
+use Rattle.leaf_sound.proofs.Heads.{AllMove, all-move, heads-prior}
 
 no-declares : (m : Name) (is : List Item) → AllMove is → declares m is ≡ 0
 no-declares m [] a = refl

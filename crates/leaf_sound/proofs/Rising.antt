@@ -1,5 +1,5 @@
 -- Items that drive names in rising order of rank: so each is driven once.
-use Rattle.std.proofs.Common.{◌≡◌, ◌≢◌, ℕ, zero, suc, ◌+◌, ◌-◌, ◌*◌, ◌<◌, ◌≤◌, ◌⊎◌, inl, inr, Bool, true, false, List, [], ◌∷◌, ◌++◌, map, length, refl, sym, ◌∙◌, ap, subst, arith, lit≤, flat_map, Option, Some, None, if◌then◌else◌, bytes_eq, is_some}
+use Rattle.std.proofs.Common.{◌≡◌, ◌≢◌, ℕ, zero, suc, ◌+◌, ◌<◌, ◌≤◌, Bool, true, false, List, [], ◌∷◌, ◌++◌, map, refl, sym, ◌∙◌, ap, subst, arith, lit≤, flat_map, Option, Some, None, if◌then◌else◌, bytes_eq}
 use Rattle.vl_tree.specs.declared.tree.Const.{Const}
 use Rattle.vl_tree.specs.Values.{Name, Expr, Item, wire, reg, mem, assign, clocked, store}
 use Rattle.vl_model.specs.Meaning.{one_if}

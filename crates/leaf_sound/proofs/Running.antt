@@ -1,30 +1,24 @@
 -- The leaf of a tile runs as the tile.
-use Rattle.std.proofs.Common.{◌≡◌, ℕ, zero, suc, ◌+◌, ◌-◌, ◌*◌, ◌/◌, ◌%◌, ◌^◌, ◌<◌, ◌≤◌, ◌⊎◌, inl, inr, Bool, true, false, List, [], ◌∷◌, ◌++◌, length, refl, sym, ◌∙◌, ap, subst, arith, Some, is_some, nat_lt, nat_le, min, codes, if◌then◌else◌}
+use Rattle.std.proofs.Common.{◌≡◌, ℕ, zero, suc, ◌+◌, ◌-◌, ◌/◌, ◌%◌, ◌^◌, ◌<◌, ◌≤◌, ◌⊎◌, inl, inr, Bool, true, false, [], ◌∷◌, ◌++◌, length, refl, sym, ◌∙◌, ap, subst, arith, nat_lt, nat_le, min, codes, if◌then◌else◌}
 use Rattle.std.proofs.lemmas.Bool.Decides.{nat_tests}
-use Rattle.vl_tree.specs.Values.{Design}
-use Rattle.vl_model.specs.Lines.{leaf_named}
-use Rattle.vl_model.specs.Leaf.{leaf_widths, IsLeafRun}
-use Rattle.vl_model.specs.Meaning.{Values, one_if}
+use Rattle.vl_model.specs.Leaf.{leaf_widths}
+use Rattle.vl_model.specs.Meaning.{one_if}
 use Rattle.vl_model.specs.Parts.{AllHold}
-use Rattle.vl_model.specs.Rules.{IsSound as IsSoundDesign}
 use Rattle.vl_model.proofs.Held.{parts-hold}
-use Rattle.noc_model.specs.Plan.{Plan, tiles, ports, hosts, link_channels}
-use Rattle.noc_model.specs.Place.{neighbour}
-use Rattle.noc_model.specs.Sound.{IsSound}
-use Rattle.noc_model.specs.Tile.{TileIn}
+use Rattle.noc_model.specs.Plan.{Plan, link_channels}
 use Rattle.flit_word.specs.Words.{dest_bits, channel_bits, flit_bits}
 use Rattle.gen_kit.specs.Groups.{Group, HoldsIn}
 use Rattle.gen_kit.specs.Ports.{name_with}
 use Rattle.gen_kit.specs.Shape.{credit_bits}
 use Rattle.gen_kit.specs.Work.{leaf_name}
 use Rattle.leaf_tie.specs.Glue.{state_at, rows_at}
-use Rattle.leaf_tie.specs.Names.{leaf_names, net_names, port_names, out_names, bundle_name, credit_base, credit_domain, credit_channel, credit_domain_below, leaf_sizes, slot_high, credit_bundle, link_outs, inner_groups, out_groups, leaf_module}
+use Rattle.leaf_tie.specs.Names.{leaf_names, net_names, port_names, out_names, credit_base, credit_domain, credit_channel, credit_domain_below, leaf_sizes, slot_high, credit_bundle, inner_groups, out_groups, leaf_module}
 use Rattle.leaf_tie.specs.Outs.{link_out_group, local_out_group}
-use Rattle.leaf_tie.specs.Tie.{HasLink, LeafIn, LeafTie}
+use Rattle.leaf_tie.specs.Tie.{HasLink, LeafTie}
 use Rattle.leaf_tie.proofs.Grouped.{text-run}
 use Rattle.leaf_tie.proofs.Members.{Member, in-back, in-then, holds-in}
 use Rattle.leaf_tie.proofs.Outs.{outs-shown, credits-shown}
-use Rattle.leaf_sound.specs.Laws.{ModuleRun, ModuleHolds}
+use Rattle.leaf_sound.specs.Laws.{ModuleRun}
 use Rattle.leaf_sound.proofs.Bits.{sizes-meet}
 use Rattle.leaf_sound.proofs.Joint.{names-joined}
 use Rattle.leaf_sound.proofs.LinkItems.{credit-below}

@@ -1,38 +1,35 @@
 -- What all domains of a leaf share, and its ports: what the lines declare of them.
-use Rattle.std.proofs.Common.{◌≡◌, ◌≢◌, ℕ, zero, suc, ◌+◌, ◌-◌, ◌*◌, ◌^◌, ◌<◌, ◌≤◌, ◌⊎◌, inl, inr, Bool, true, false, ◌||◌, ◌&&◌, List, [], ◌∷◌, ◌++◌, map, length, refl, sym, ◌∙◌, ap, subst, arith, Option, Some, None, is_some, ◌==◌, nat_lt, min, codes, filter, flat_map, if◌then◌else◌, slice_index_or}
+use Rattle.std.proofs.Common.{◌≡◌, ℕ, zero, suc, ◌+◌, ◌-◌, ◌*◌, ◌^◌, ◌<◌, ◌≤◌, ◌⊎◌, inl, inr, Bool, true, false, ◌||◌, ◌&&◌, List, [], ◌∷◌, ◌++◌, map, length, refl, ◌∙◌, subst, arith, Option, Some, None, is_some, ◌==◌, nat_lt, min, codes, filter, flat_map, if◌then◌else◌, slice_index_or}
 use Rattle.std.specs.List.{AllByRecursion, list_any}
 use Rattle.std.proofs.lemmas.Bool.Decides.{nat_tests}
-use Rattle.std.proofs.lemmas.Bool.{and_parts}
 use Rattle.vl_tree.specs.declared.tree.Port.{Port}
-use Rattle.vl_tree.specs.Values.{Name, Expr, Item, wire, reg}
+use Rattle.vl_tree.specs.Values.{Name, reg}
 use Rattle.vl_tree.specs.Tokens.{is_name}
-use Rattle.vl_model.specs.declared.kind.Kind.TheVariants.{Input, Output, Inner, Register}
-use Rattle.vl_model.specs.Lines.{Line, port, item, declared, lookup}
+use Rattle.vl_model.specs.declared.kind.Kind.TheVariants.{Input, Register}
+use Rattle.vl_model.specs.Lines.{Line, port, declared, lookup}
 use Rattle.vl_model.proofs.Passed.{all-front, all-back}
 use Rattle.std.proofs.lemmas.Nat.{mul-le}
 use Rattle.std.proofs.lemmas.List.Sums.{sum_by-cons}
 use Rattle.noc_model.specs.declared.plan.DomainPart.{DomainPart}
 use Rattle.noc_model.specs.declared.Host.{Host}
-use Rattle.noc_model.specs.Plan.{Plan, tiles, ports, hosts, is_host, link_channels, classes, all_link_channels}
+use Rattle.noc_model.specs.Plan.{Plan, tiles, ports, hosts, is_host, classes, all_link_channels}
 use Rattle.noc_model.specs.Place.{neighbour, opposite}
 use Rattle.noc_model.specs.Sound.{IsSound}
 use Rattle.noc_model.specs.Events.{tabulate}
 use Rattle.flit_word.specs.Words.{bits, dest_bits, channel_bits, flit_bits, link_bits}
-use Rattle.gen_kit.specs.Families.{for_each}
-use Rattle.gen_kit.specs.Groups.{Group}
 use Rattle.gen_kit.specs.Ports.{host_ports, name_with}
-use Rattle.gen_kit.specs.Shape.{Tied, host_ties, link_ties, second_ties, tile_ties, tile_head, credit_bits}
+use Rattle.gen_kit.specs.Shape.{Tied, host_ties, link_ties, second_ties, tile_head, credit_bits}
 use Rattle.leaf_tie.specs.Slots.{slot_group, owned_nets}
 use Rattle.leaf_tie.specs.Links.{link_group}
 use Rattle.leaf_tie.specs.Tie.{HasLink}
 use Rattle.leaf_tie.specs.Glue.{link_names, arrival_group}
 use Rattle.leaf_tie.specs.Whole.{uses_slot}
-use Rattle.leaf_tie.specs.Names.{own, owns_tag, arrival_tag, slot_tag, row_tag, leaf_names, net_names, port_names, credit_base, leaf_sizes, slot_high, inner_groups}
+use Rattle.leaf_tie.specs.Names.{owns_tag, arrival_tag, slot_tag, row_tag, leaf_names, net_names, port_names, credit_base, leaf_sizes, slot_high, inner_groups}
 use Rattle.leaf_tie.proofs.Members.{Member}
 use Rattle.leaf_tie.proofs.Grouped.{slot-member, in-shared}
 use Rattle.leaf_sound.proofs.Keyed.{rank, rank-net, two-rank, three-rank}
 use Rattle.leaf_sound.proofs.Outs.{map-append}
-use Rattle.leaf_sound.proofs.Bits.{bits-few, bits-some}
+use Rattle.leaf_sound.proofs.Bits.{bits-few}
 use Rattle.leaf_sound.proofs.Inner.{few-ports, few-classes}
 use Rattle.leaf_sound.proofs.Typed.{Net}
 use Rattle.leaf_sound.proofs.Plainly.{own-plain, pair-plain, triple-plain}

@@ -1,32 +1,31 @@
 -- The items of slot counters and of links, which all domains share, are right.
-use Rattle.std.proofs.Common.{◌≡◌, ◌≢◌, ℕ, zero, suc, ◌+◌, ◌-◌, ◌*◌, ◌^◌, ◌<◌, ◌≤◌, ◌⊎◌, inl, inr, Bool, true, false, List, [], ◌∷◌, ◌++◌, length, refl, sym, ◌∙◌, ap, subst, arith, Option, Some, None, is_some, ◌==◌, if◌then◌else◌, pos}
-use Rattle.vl_tree.specs.declared.tree.Op.TheVariants.{And, Or, Add, Equal}
-use Rattle.vl_tree.specs.Values.{Name, Expr, Item, net, bit, part, two, choose, cat, parts, no_parts, wire, assign}
-use Rattle.vl_model.specs.declared.kind.Kind.TheVariants.{Input, Inner, Register}
-use Rattle.vl_model.specs.Lines.{Line, kind_passes, is_output}
+use Rattle.std.proofs.Common.{◌≡◌, ℕ, zero, suc, ◌+◌, ◌-◌, ◌*◌, ◌^◌, ◌<◌, ◌≤◌, ◌⊎◌, inl, inr, Bool, true, false, List, [], ◌∷◌, length, refl, ap, subst, arith, is_some, ◌==◌, if◌then◌else◌, pos}
+use Rattle.vl_tree.specs.declared.tree.Op.TheVariants.{Or, Add, Equal}
+use Rattle.vl_tree.specs.Values.{Name, net, part, two, cat, parts, no_parts}
+use Rattle.vl_model.specs.declared.kind.Kind.TheVariants.{Inner, Register}
+use Rattle.vl_model.specs.Lines.{Line}
 use Rattle.noc_model.specs.Plan.{Plan, tiles, ports}
-use Rattle.noc_model.specs.Place.{neighbour, opposite, route, way_of, way_from, goes_plus, port_of, coords_in}
+use Rattle.noc_model.specs.Place.{neighbour, route, way_of, way_from, goes_plus, port_of, coords_in}
 use Rattle.noc_model.specs.declared.ways.Way.TheVariants.{Plus, Minus}
 use Rattle.noc_model.specs.Sound.{IsSound}
-use Rattle.flit_word.specs.Words.{dest_bits, channel_bits, flit_bits, link_bits}
-use Rattle.gen_kit.specs.Families.{in_bits, for_each}
-use Rattle.gen_kit.specs.Mux.{table, branch, merged, are_same, constant_of}
-use Rattle.leaf_tie.specs.Slots.{SlotNames, owned, owned_nets, slot_group, leaving_slot}
+use Rattle.flit_word.specs.Words.{dest_bits, channel_bits, flit_bits}
+use Rattle.gen_kit.specs.Families.{in_bits}
+use Rattle.gen_kit.specs.Mux.{table, branch, are_same, constant_of}
+use Rattle.leaf_tie.specs.Slots.{SlotNames, owned, leaving_slot}
 use Rattle.leaf_tie.specs.Links.{LinkNames, owners_word, link_group}
 use Rattle.leaf_tie.specs.Tie.{HasLink}
-use Rattle.leaf_tie.specs.Glue.{link_names, arrival_group, route_bits}
+use Rattle.leaf_tie.specs.Glue.{link_names, route_bits}
 use Rattle.leaf_tie.specs.Whole.{uses_slot, slot_groups, shared_groups}
 use Rattle.leaf_tie.specs.Names.{leaf_names, net_names, port_names, leaf_sizes, slot_high}
 use Rattle.leaf_tie.proofs.Grouped.{uses-leaving}
 use Rattle.leaf_tie.proofs.Started.{slot-below}
-use Rattle.leaf_sound.proofs.Keyed.{rank}
 use Rattle.leaf_sound.proofs.Bits.{sizes-meet, bits-some}
 use Rattle.leaf_sound.proofs.Inner.{few-ports}
 use Rattle.leaf_sound.proofs.Typed.{Net, Is, net-is, number-is, bit-is, part-is, two-is, choose-is, none-are, next-are, cat-is, deeper, wide-as}
 use Rattle.leaf_sound.proofs.Walk.{May, Any}
-use Rattle.leaf_sound.proofs.Domain.{Wire, ls, by-register, by-rank, reg-in, wire-in, word, few-dests}
+use Rattle.leaf_sound.proofs.Domain.{Wire, ls, by-register, by-rank, word, few-dests}
 use Rattle.leaf_sound.proofs.Shared.{Given, link-in, goal, stored, row, counter, owns, few-slot, few-word-bits}
-use Rattle.leaf_sound.proofs.Items.{Good, GoodNets, good-nil, nets-nil, net-next, assign-next, reg-next, wire-next, clocked-next, good-join, good-each, nets-each, GoodGroups, no-groups, group-next, groups-each, groups-if}
+use Rattle.leaf_sound.proofs.Items.{Good, good-nil, nets-nil, net-next, assign-next, reg-next, wire-next, clocked-next, good-each, nets-each, GoodGroups, no-groups, group-next, groups-each, groups-if}
 
 pub pow-pos : (k : ℕ) → 0 < 2 ^ k
 pow-pos zero = omega arith

@@ -1,34 +1,32 @@
 -- A leaf keeps all rules: it is sound by itself.
-use Rattle.std.proofs.Common.{◌≡◌, ◌≢◌, ℕ, zero, suc, ◌+◌, ◌-◌, ◌*◌, ◌^◌, ◌<◌, ◌≤◌, ◌⊎◌, inl, inr, Bool, true, false, ◌&&◌, ◌||◌, List, [], ◌∷◌, ◌++◌, map, length, refl, sym, ◌∙◌, ap, subst, arith, Option, Some, None, bytes_eq, ◌==◌, nat_lt, nat_le, is_some, append_assoc, if◌then◌else◌, codes, decimal, length-append, min}
+use Rattle.std.proofs.Common.{◌≡◌, ℕ, ◌+◌, ◌^◌, ◌<◌, ◌≤◌, ◌⊎◌, inl, inr, Bool, true, false, ◌&&◌, List, [], ◌∷◌, ◌++◌, map, length, refl, sym, ◌∙◌, ap, subst, arith, Option, Some, None, bytes_eq, nat_lt, nat_le, append_assoc, if◌then◌else◌, decimal}
 use Rattle.std.specs.Prelude.{not}
 use Rattle.std.specs.List.{AllByRecursion, list_any, list_all}
 use Rattle.std.proofs.lemmas.Bool.{and_from, or_from}
 use Rattle.std.proofs.lemmas.Bool.Decides.{nat_tests}
 use Rattle.std.proofs.lemmas.List.{append-nil}
-use Rattle.std.proofs.lemmas.Fmt.{decimal_is_IsNumeral, length-decimal-le}
+use Rattle.std.proofs.lemmas.Fmt.{decimal_is_IsNumeral}
 use Rattle.vl_tree.specs.declared.tree.Port.{Port}
 use Rattle.vl_tree.specs.Values.{Name, Expr, Item, wire, reg, mem, assign, clocked, store}
-use Rattle.vl_tree.specs.Tokens.{is_name, is_name_rest, is_run}
+use Rattle.vl_tree.specs.Tokens.{is_name}
 use Rattle.vl_tree.specs.Grammar.{limit}
 use Rattle.vl_tree.specs.Plain.{plain_leaf, plain_port, plain_item, plain_expr, plain_const, plain_number}
 use Rattle.vl_model.specs.Meaning.{nets_of}
 use Rattle.vl_model.specs.declared.kind.Kind.{Kind}
 use Rattle.vl_model.specs.declared.kind.Kind.TheVariants.{Input, Output, Inner, Register, Memory, Child}
-use Rattle.vl_model.specs.Lines.{Line, heading, port, item, leaf_lines, Site, sites_behind, module_sites, Declared, declared, lookup, kind_passes, is_net, is_register, is_output, is_driven, is_input, way_of}
-use Rattle.vl_model.specs.Rules.{is_kind, rules, first_fault_of, name_unknown, wrong_width, wrong_order, goes_through, wrong_size, depending, all_depending, is_through, IsSoundLeaf}
+use Rattle.vl_model.specs.Lines.{Line, heading, port, item, Site, sites_behind, module_sites, Declared, declared, lookup, kind_passes, is_register, is_output, is_driven, is_input, way_of}
+use Rattle.vl_model.specs.Rules.{is_kind, rules, name_unknown, wrong_width, wrong_order, goes_through, wrong_size, depending, all_depending, IsSoundLeaf}
 use Rattle.vl_model.proofs.Passed.{Passes}
 use Rattle.vl_model.proofs.Together.{all-none}
 use Rattle.vl_model.proofs.Settling.{one-name}
 use Rattle.noc_model.specs.declared.Host.{Host}
-use Rattle.noc_model.specs.Plan.{Plan, tiles, ports, hosts, is_host}
-use Rattle.noc_model.specs.Place.{neighbour, opposite}
+use Rattle.noc_model.specs.Plan.{Plan, tiles, ports}
+use Rattle.noc_model.specs.Place.{opposite}
 use Rattle.noc_model.specs.Sound.{IsSound}
-use Rattle.flit_word.specs.Words.{link_bits}
 use Rattle.gen_kit.specs.Ports.{host_ports}
 use Rattle.gen_kit.specs.Shape.{Tied, link_ties, second_ties, tile_head, credit_bits}
 use Rattle.gen_kit.specs.Work.{leaf_name}
 use Rattle.leaf_tie.specs.Names.{leaf_module}
-use Rattle.leaf_sound.proofs.Keyed.{rank}
 use Rattle.leaf_sound.proofs.Named.{twice-passes, drivers-pass, joins-pass}
 use Rattle.leaf_sound.proofs.Outs.{ports-all}
 use Rattle.leaf_sound.proofs.Plainly.{pair-plain, triple-plain, last-run, some-digit}

@@ -1,43 +1,33 @@
 -- The items of a domain are right: the switch, and what goes by links.
-use Rattle.std.proofs.Common.{◌≡◌, ◌≢◌, ℕ, zero, suc, ◌+◌, ◌-◌, ◌*◌, ◌^◌, ◌<◌, ◌≤◌, ◌⊎◌, inl, inr, Bool, true, false, ◌&&◌, List, [], ◌∷◌, ◌++◌, length, refl, sym, ◌∙◌, ap, subst, arith, Option, Some, None, is_some, ◌==◌, nat_lt, min, codes, if◌then◌else◌, pos}
-use Rattle.std.proofs.lemmas.Bool.Decides.{nat_tests}
-use Rattle.std.proofs.lemmas.Bool.{and_parts}
+use Rattle.std.proofs.Common.{◌≡◌, ℕ, zero, suc, ◌+◌, ◌-◌, ◌*◌, ◌<◌, ◌≤◌, true, List, length, refl, arith, pos}
 use Rattle.std.proofs.lemmas.Nat.{mul-le}
-use Rattle.vl_tree.specs.declared.tree.Op.TheVariants.{And, Or, Add, Sub, Equal}
-use Rattle.vl_tree.specs.Values.{Name, Expr, Item, net, bit, part, not, two, choose, cat, parts, no_parts, wire, assign}
-use Rattle.vl_model.specs.declared.kind.Kind.TheVariants.{Inner, Register}
+use Rattle.vl_tree.specs.declared.tree.Op.TheVariants.{And, Or}
+use Rattle.vl_tree.specs.Values.{Name, net, cat}
 use Rattle.vl_model.specs.Lines.{Line}
 use Rattle.noc_model.specs.Plan.{Plan, tiles, ports, hosts, channels, link_channels, in_channels}
-use Rattle.noc_model.specs.Place.{neighbour, opposite}
 use Rattle.noc_model.specs.Sound.{IsSound}
-use Rattle.flit_word.specs.Words.{dest_bits, channel_bits, flit_bits}
-use Rattle.gen_kit.specs.Families.{in_bits, for_each, or_upto, row_parts}
-use Rattle.gen_kit.specs.Masks.{mask}
-use Rattle.gen_kit.specs.Mux.{gated_words}
-use Rattle.gen_kit.specs.Rotate.{is_empty, least_member, behind_member, RotateNames, rotate_group, pointer_moves}
-use Rattle.gen_kit.proofs.Sets.{mask-lt}
-use Rattle.leaf_tie.specs.Alloc.{AllocSize, class_start, out_count, class_nets, class_number, asks_class, taken_nets, taken_parts, alloc_group, in_class}
-use Rattle.leaf_tie.specs.Switch.{switch_group, port_part, port_nets, output_nets, grant_nets, place_count, ready_expr}
+use Rattle.flit_word.specs.Words.{dest_bits}
+use Rattle.gen_kit.specs.Families.{or_upto, row_parts}
+use Rattle.leaf_tie.specs.Alloc.{out_count}
+use Rattle.leaf_tie.specs.Switch.{switch_group, port_nets, output_nets, grant_nets, place_count}
 use Rattle.leaf_tie.specs.Tie.{HasLink, alloc_size}
-use Rattle.leaf_tie.specs.Glue.{switch_names, switch_size, high, out_high, has_port, has_place, placed, place_bits, front_bits, able, some_active, port_flit, out_flit, out_channel, filled_group, tails_group, led_group, ready_group}
+use Rattle.leaf_tie.specs.Glue.{switch_names, switch_size, high, out_high, has_port, able, some_active, ready_group}
 use Rattle.leaf_tie.specs.Names.{leaf_names, net_names, port_names, credit_base, leaf_sizes}
 use Rattle.leaf_tie.proofs.Sized.{high-is, place_count-is}
-use Rattle.leaf_sound.proofs.Keyed.{rank}
 use Rattle.leaf_sound.proofs.Ranked.{at}
 use Rattle.leaf_sound.proofs.Inner.{few-channels, few-links, few-ports}
-use Rattle.leaf_sound.proofs.Typed.{Net, Is, net-is, number-is, bit-is, part-is, not-is, two-is, choose-is, none-are, next-are, cat-is, deeper, wide-as, or-is, row-is, empty-is}
+use Rattle.leaf_sound.proofs.Typed.{Is, net-is, number-is, bit-is, part-is, not-is, two-is, choose-is, deeper, wide-as, or-is, row-is, empty-is}
 use Rattle.leaf_sound.proofs.Walk.{May, Any}
 use Rattle.leaf_sound.proofs.Domain as facts
 use Rattle.leaf_sound.proofs.Domain.{Wire, ls, by-register, by-rank, reg-in, wire-in}
-use Rattle.leaf_sound.proofs.Items.{Good, GoodNets, good-nil, nets-nil, net-next, assign-next, reg-next, wire-next, clocked-next, good-join, good-each, nets-join, nets-each}
-use Rattle.leaf_sound.proofs.SharedItems.{pow-pos, two-more}
-use Rattle.leaf_tie.specs.Slots.{leaving_slot, arriving_slot}
-use Rattle.leaf_tie.specs.Counts.{idle_group, credit_group}
-use Rattle.leaf_tie.specs.Glue.{ends_group, unready_group, on_group, freed_group, flit_group, word_group, pulse_group}
+use Rattle.leaf_sound.proofs.Items.{Good, GoodNets, good-nil, nets-nil, net-next, reg-next, clocked-next, good-join, good-each, nets-join, nets-each}
+use Rattle.leaf_sound.proofs.SharedItems.{pow-pos}
+use Rattle.leaf_tie.specs.Slots.{leaving_slot}
+use Rattle.leaf_tie.specs.Counts.{idle_group}
+use Rattle.leaf_tie.specs.Glue.{ends_group, unready_group, on_group, freed_group, flit_group}
 use Rattle.noc_model.specs.Place.{way_of}
-use Rattle.leaf_tie.proofs.Grouped.{uses-leaving, uses-arriving}
+use Rattle.leaf_tie.proofs.Grouped.{uses-leaving}
 use Rattle.leaf_tie.proofs.Started.{slot-below}
-use Rattle.leaf_sound.proofs.Bits.{sizes-meet, bits-some}
 use Rattle.leaf_sound.proofs.DomainItems.{least-is, some-is, pointer-good}
 use Rattle.leaf_sound.proofs.Shared as shared
 use Rattle.leaf_sound.proofs.SharedItems.{input-may}

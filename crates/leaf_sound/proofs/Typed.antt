@@ -1,12 +1,12 @@
 -- Expressions of one width among the lines of a leaf: what they read is known, their widths agree, and they are plain.
-use Rattle.std.proofs.Common.{◌≡◌, ℕ, zero, suc, ◌+◌, ◌-◌, ◌*◌, ◌^◌, ◌<◌, ◌≤◌, Bool, true, false, ◌&&◌, List, [], ◌∷◌, ◌++◌, refl, sym, ◌∙◌, ap, subst, arith, Option, Some, None, nat_lt, nat_le, ◌==◌, if◌then◌else◌}
+use Rattle.std.proofs.Common.{◌≡◌, ℕ, zero, suc, ◌+◌, ◌-◌, ◌*◌, ◌^◌, ◌<◌, ◌≤◌, true, List, [], ◌++◌, refl, sym, ◌∙◌, ap, subst, arith, Some, nat_lt, nat_le, ◌==◌, if◌then◌else◌}
 use Rattle.std.specs.List.{AllByRecursion}
 use Rattle.std.proofs.lemmas.Bool.Decides.{nat_tests}
 use Rattle.vl_tree.specs.declared.tree.Op.{Op}
 use Rattle.vl_tree.specs.declared.tree.Op.TheVariants.{Add, Sub, And, Or, Xor, Equal, Less}
-use Rattle.vl_tree.specs.Values.{Name, Expr, Exprs, net, number, bit, part, word, not, two, choose, cat, no_parts, parts}
+use Rattle.vl_tree.specs.Values.{Name, Expr, Exprs, net, bit, part, not, two, choose, cat, no_parts, parts}
 use Rattle.vl_tree.specs.Tokens.{is_name}
-use Rattle.vl_tree.specs.Plain.{plain_expr, plain_exprs, plain_const, plain_number}
+use Rattle.vl_tree.specs.Plain.{plain_expr, plain_exprs}
 use Rattle.vl_model.specs.Meaning.{Use, op_width, width_of, widths_of, agrees, all_agree, nets_of, parts_nets, uses_of, parts_uses}
 use Rattle.vl_model.specs.declared.kind.Kind.{Kind}
 use Rattle.vl_model.specs.Lines.{Line, Declared, lookup, is_net, is_memory, net_bits, widths, word_count}

@@ -1,25 +1,23 @@
 -- A leaf of which each item is right among all lines, and uses only what stands before it, keeps the rules.
-use Rattle.std.proofs.Common.{◌≡◌, ℕ, zero, suc, ◌+◌, ◌-◌, ◌*◌, ◌^◌, ◌<◌, ◌≤◌, ◌⊎◌, inl, inr, Bool, true, false, ◌&&◌, ◌||◌, List, [], ◌∷◌, ◌++◌, map, refl, sym, ◌∙◌, ap, subst, arith, Option, Some, None, is_some, bytes_eq, nat_lt, ◌==◌, append_assoc, if◌then◌else◌}
+use Rattle.std.proofs.Common.{◌≡◌, ℕ, ◌+◌, ◌^◌, ◌<◌, ◌≤◌, ◌⊎◌, Bool, true, false, ◌&&◌, List, [], ◌∷◌, ◌++◌, map, refl, sym, ◌∙◌, ap, subst, arith, Option, Some, None, bytes_eq, nat_lt, ◌==◌, append_assoc, if◌then◌else◌}
 use Rattle.std.specs.Prelude.{not}
 use Rattle.std.specs.List.{AllByRecursion, list_any, list_all}
 use Rattle.std.proofs.lemmas.Bool.{and_from, true≢false}
 use Rattle.std.proofs.lemmas.Bool.Decides.{nat_tests}
 use Rattle.std.proofs.lemmas.List.{append-nil}
-use Rattle.vl_tree.specs.declared.tree.Port.{Port}
-use Rattle.vl_tree.specs.Values.{Name, Expr, Item, wire, reg, mem, assign, clocked, store, Leaf}
+use Rattle.vl_tree.specs.Values.{Name, Expr, Item, wire, reg, mem, assign, clocked, store}
 use Rattle.vl_tree.specs.Tokens.{is_name}
-use Rattle.vl_tree.specs.Grammar.{limit}
-use Rattle.vl_tree.specs.Plain.{plain_number, plain_item, plain_expr}
+use Rattle.vl_tree.specs.Plain.{plain_number}
 use Rattle.vl_model.specs.Meaning.{Use, width_of, agrees, nets_of, uses_of, one_if}
 use Rattle.vl_model.specs.declared.kind.Kind.{Kind}
 use Rattle.vl_model.specs.declared.kind.Kind.TheVariants.{Register}
-use Rattle.vl_model.specs.Lines.{Line, heading, port, item, leaf_lines, sites_behind, module_sites, Declared, declared, found, lookup, kind_passes, is_net, is_memory, is_register, is_output, is_driven, net_bits, word_bits, widths, word_count}
-use Rattle.vl_model.specs.Rules.{is_kind, knows, line_known, name_unknown, line_fits, wrong_width, is_early, reads_early, wrong_order, is_size, use_fits, line_uses, has_size, wrong_size}
+use Rattle.vl_model.specs.Lines.{Line, item, sites_behind, Declared, declared, found, lookup, kind_passes, is_net, is_memory, is_register, is_output, is_driven, net_bits, word_bits, widths, word_count}
+use Rattle.vl_model.specs.Rules.{is_kind, knows, line_known, name_unknown, line_fits, wrong_width, is_early, reads_early, wrong_order, is_size, use_fits, has_size, wrong_size}
 use Rattle.vl_model.proofs.Passed.{Passes, all-map}
-use Rattle.vl_model.proofs.Ordered.{lookup-front, known-width, net-width, word-width, driven-is-net}
+use Rattle.vl_model.proofs.Ordered.{lookup-front, known-width}
 use Rattle.leaf_sound.proofs.Keyed.{rank}
-use Rattle.leaf_sound.proofs.Named.{gives, given, given-append}
-use Rattle.leaf_sound.proofs.Typed.{Net, UseIs, Reads, Is, net-wide, net-known}
+use Rattle.leaf_sound.proofs.Named.{gives, given}
+use Rattle.leaf_sound.proofs.Typed.{Net, UseIs, Reads, Is, net-wide}
 
 -- ---- each item by itself
 
