@@ -1,8 +1,8 @@
 #!/usr/bin/env bash
-# Times `surf replay` of a Verilog text under a trace: how long reading and judging take, and how many cycles a second run then.
+# Times `surf replay` of a Verilog text under a trace: reading and judging the text, and how many cycles a second then run.
 # Usage: tools/replay_speed.sh DESCRIPTION TEXT TRACE CYCLES [SURF]
-# SURF is the program, `surf` of this checkout where it isn't named. Each time is that of the fastest of three runs. Where Icarus
-# Verilog or Verilator is installed, tools/compare_text.sh then runs the same cycles by it.
+# SURF is the program, `surf` of this checkout where it isn't named. Each time is that of the fastest of three runs. Where
+# Icarus Verilog or Verilator is installed, tools/compare_text.sh then runs the same cycles by it.
 set -eu
 top=$(dirname "$(dirname "$(readlink -f "$0")")")
 if [ $# -lt 4 ]; then
@@ -29,7 +29,10 @@ read_in=$(fastest 0)
 ran_in=$(fastest "$cycles")
 echo "$(wc -c <"$text") bytes are read and judged in $read_in s, $cycles cycles run in $ran_in s with it"
 awk -v cycles="$cycles" -v first="$read_in" -v all="$ran_in" \
-  'BEGIN { if (all > first) printf "%d cycles a second\n", cycles / (all - first); else print "too few cycles to say how many a second" }'
+  'BEGIN {
+    if (all > first) printf "%d cycles a second\n", cycles / (all - first)
+    else print "too few cycles to say how many a second"
+  }'
 
 if command -v iverilog >/dev/null || command -v verilator >/dev/null; then
   "$top/tools/compare_text.sh" "$description" "$text" "$trace" "$cycles" "$surf"

@@ -80,8 +80,8 @@ fn ranges(alloc: Global) -> Result<Vec<Range>, AllocError>
     Ok(ranges)
 }
 
-/// The plan: a mesh of four by four tiles and four domains of one channel, `d0` to `d3`. A corner hosts all of them, and
-/// each other tile the domain of its column. The addresses of a tile are the 4096 from 4096 times the tile on.
+/// The plan: a mesh of four by four tiles and four domains of one channel, `d0` to `d3`. A corner hosts all of them,
+/// and each other tile the domain of its column. The addresses of a tile are the 4096 from 4096 times the tile on.
 ///
 /// # Errors
 ///
