@@ -1,0 +1,4 @@
+pub mod Listed
+pub mod Joins
+pub mod Fed
+pub mod Right
