@@ -1,4 +1,4 @@
-mod Bits
+pub mod Bits
 mod Keyed
 mod Rising
 mod Ranked

@@ -262,7 +262,7 @@ module _ (p : Plan) (sound : IsSound p) where
           link-fits p base n q m (link-found n q m below e) (link-found m (opposite q) n (neighbour-inside p n q m (positive p.dims sound.sides) e) link.back)
 
   -- each port is found by its name
-  map-twice : (ts : List Tied) → map (λ (q : Port). q.name) (map (λ (t : Tied). t.port) ts) ≡ port_names ts
+  pub map-twice : (ts : List Tied) → map (λ (q : Port). q.name) (map (λ (t : Tied). t.port) ts) ≡ port_names ts
   map-twice [] = refl
   map-twice (t ∷ ts) = ap (λ z. t.port.name ∷ z) (map-twice ts)
 

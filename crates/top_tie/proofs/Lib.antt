@@ -1,4 +1,3 @@
-pub mod Listed
 pub mod Joins
 pub mod Fed
 pub mod Right
