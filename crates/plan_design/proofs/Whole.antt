@@ -15,7 +15,7 @@ use Rattle.shape_sound.proofs.Shaped.{shape-is-sound}
 use Rattle.shape_sound.proofs.Top.{leaf-apart}
 use Rattle.top_tie.specs.Holds.{HoldsTile, HoldsTiles}
 use Rattle.top_tie.proofs.Right.{right-together}
-use Rattle.plan_design.specs.Design.{text_sizes, plan_design}
+use Rattle.plan_design.specs.Design.{text_sizes, design_module}
 use Rattle.plan_design.specs.Laws.{PlanIsRight}
 use Rattle.plan_design.proofs.Credits.{sizes-fit}
 use Rattle.plan_design.proofs.Held.{held}
@@ -24,7 +24,7 @@ same-heads : (p : Plan) (ns : List ℕ) → map head_of (map (leaf_module p) ns)
 same-heads p [] = refl
 same-heads p (n ∷ ns) = ap (λ hs. tile_head p n ∷ hs) (same-heads p ns)
 
-pub its-shape : (p : Plan) → HasShape p (plan_design p)
+pub its-shape : (p : Plan) → HasShape p (design_module p)
 its-shape p = record { leaves = same-heads p (all_tiles p); ports = refl; items = refl }
 
 -- a tile's leaf is found by its name
@@ -37,13 +37,13 @@ found p (suc k) g apart (suc i) below =
     ap (λ b. cond b (Some (leaf_module p (g 0))) (leaf_named (map (leaf_module p) (tabulate k (λ j. g (suc j)))) (leaf_name (g (suc i))))) (apart 0 (suc i) (omega arith) below)
     ∙ found p k (λ j. g (suc j)) (λ a b less under. apart (suc a) (suc b) (omega (arith, less)) (omega (arith, under))) i (omega (arith, below))
 
-all-hold : (p : Plan) → IsSound p → HoldsTiles p (text_sizes p) (plan_design p)
+all-hold : (p : Plan) → IsSound p → HoldsTiles p (text_sizes p) (design_module p)
 all-hold p sound n l below e =
     let is : leaf_module p n ≡ l = cc (found p (tiles p) (λ k. k) (leaf-apart p sound) n below, e) in
     subst (HoldsTile p n (text_sizes p)) is (held p n sound below)
 
 pub plan-is-right : PlanIsRight
 plan-is-right p sound leaves =
-    right-together p (text_sizes p) (plan_design p) sound (sizes-fit p sound)
-    (shape-is-sound p (plan_design p) sound (its-shape p) (to-mapped IsSoundLeaf (leaf_module p) (all_tiles p) (to-numbers (λ n. IsSoundLeaf (leaf_module p n)) (tiles p) (λ n. n) leaves)))
+    right-together p (text_sizes p) (design_module p) sound (sizes-fit p sound)
+    (shape-is-sound p (design_module p) sound (its-shape p) (to-mapped IsSoundLeaf (leaf_module p) (all_tiles p) (to-numbers (λ n. IsSoundLeaf (leaf_module p n)) (tiles p) (λ n. n) leaves)))
     (its-shape p) (all-hold p sound)

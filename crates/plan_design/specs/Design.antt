@@ -1,5 +1,7 @@
 -- The design of a plan.
-use Rattle.std.specs.Prelude.{map, flat_map, ◌++◌}
+use Rattle.std.specs.Prelude.{List, ◌++◌, map, flat_map}
+use Rattle.vl_tree.specs.declared.tree.TopItem.{TopItem}
+use Rattle.vl_tree.specs.declared.tree.Top.{Top}
 use Rattle.vl_tree.specs.Values.{Design}
 use Rattle.noc_model.specs.Plan.{Plan}
 use Rattle.flit_word.specs.Words.{dest_bits, channel_bits, flit_bits}
@@ -21,12 +23,14 @@ text_sizes p = record {
   channel = credit_channel p;
 }
 
--- a leaf for each tile, joined as the shape of the plan says
-abbrev pub plan_design : Plan → Design
-plan_design p = record {
-  leaves = map (leaf_module p) (all_tiles p);
-  top = record {
-    ports = top_ports p;
-    items = flat_map (tile_wires p) (all_tiles p) ++ map (tile_instance p) (all_tiles p);
-  };
-}
+-- the wires of all links, then an instance for each tile
+abbrev pub top_items : Plan → List TopItem
+top_items p = flat_map (tile_wires p) (all_tiles p) ++ map (tile_instance p) (all_tiles p)
+
+-- the top: the ports of all attachments, and the items
+abbrev pub top_module : Plan → Top
+top_module p = record { ports = top_ports p; items = top_items p }
+
+-- a leaf for each tile, and the top that joins them
+abbrev pub design_module : Plan → Design
+design_module p = record { leaves = map (leaf_module p) (all_tiles p); top = top_module p }

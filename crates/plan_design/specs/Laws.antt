@@ -6,7 +6,7 @@ use Rattle.noc_model.specs.Sound.{IsSound}
 use Rattle.gen_kit.specs.Right.{IsRightDesign}
 use Rattle.leaf_tie.specs.Names.{leaf_module}
 use Rattle.top_tie.specs.Holds.{FitsPlan, HoldsTile}
-use Rattle.plan_design.specs.Design.{text_sizes, plan_design}
+use Rattle.plan_design.specs.Design.{text_sizes, design_module}
 
 -- The sizes of a plan's leaves are enough, and each credit of a link has its own number.
 abbrev pub SizesFit : Type 0
@@ -19,4 +19,4 @@ LeafHolds = (p : Plan) (n : ℕ) → IsSound p → n < tiles p → HoldsTile p n
 -- The design of a plan is right, where its leaves are sound by themselves.
 abbrev pub PlanIsRight : Type 0
 PlanIsRight = (p : Plan) → IsSound p → ((n : ℕ) → n < tiles p → IsSoundLeaf (leaf_module p n))
-    → IsRightDesign p (plan_design p)
+    → IsRightDesign p (design_module p)
