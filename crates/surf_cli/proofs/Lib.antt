@@ -11,3 +11,4 @@ pub mod Readings
 pub mod Runnings
 pub mod TextReads
 pub mod Replays
+pub mod Replaying

@@ -18,3 +18,4 @@ pub mod Meaning
 pub mod Answers
 pub mod Runs
 pub mod Reading
+pub mod Laws
