@@ -1,5 +1,5 @@
 -- The sizes of a plan's leaf.
-use Rattle.std.proofs.Common.{◌≡◌, ℕ, zero, suc, ◌+◌, ◌-◌, ◌*◌, ◌^◌, ◌<◌, ◌≤◌, Bool, true, false, length, refl, sym, subst, arith, lit≤, nat_lt, if◌then◌else◌}
+use Rattle.std.proofs.Common.{◌≡◌, ℕ, zero, suc, ◌+◌, ◌-◌, ◌*◌, ◌^◌, ◌<◌, ◌≤◌, ◌⊎◌, inl, inr, ◌∙◌, ap, Bool, true, false, length, refl, sym, subst, arith, lit≤, nat_lt, if◌then◌else◌}
 use Rattle.std.specs.Prelude.{nat_le}
 use Rattle.std.proofs.lemmas.Bool.Decides.{nat_tests}
 use Rattle.noc_model.specs.Plan.{Plan, tiles, link_channels}
@@ -82,3 +82,43 @@ sizes-meet p sound = record {
   dests = bits-enough (tiles p);
   flits = refl;
 }
+
+-- ---- and no more than needed
+
+from-few : (fuel a b n : ℕ) → a ≤ b → n ≤ 2 ^ b → bits_from fuel a n ≤ b
+from-few zero a b n le most = le
+from-few (suc fuel) a b n le most = go (λ h. from-few fuel (a + 1) b n h most) (nat_le n (2 ^ a)) refl
+  where
+    go : (a + 1 ≤ b → bits_from fuel (a + 1) n ≤ b) → (c : Bool) → nat_le n (2 ^ a) ≡ c → (if c then a else bits_from fuel (a + 1) n) ≤ b
+    go more true e = le
+    go more false e = more (apart order)
+      where
+        order : (a < b) ⊎ (a ≡ b)
+        order = grind arith
+
+        apart : (a < b) ⊎ (a ≡ b) → a + 1 ≤ b
+        apart (inl h) = omega arith
+        apart (inr same) = absurd (let big : (nat_le n (2 ^ b)) ≡ true = grind (arith, nat_tests) in cc (sym e ∙ ap (λ k. nat_le n (2 ^ k)) same ∙ big))
+
+pub bits-few : (b n : ℕ) → 1 ≤ b → n ≤ 2 ^ b → bits n ≤ b
+unfolding bits
+bits-few b n le most = from-few n 1 b n le most
+
+pub index-few : (depth : ℕ) → index_high depth ≤ 3
+index-few depth = go (nat_lt depth 3) (nat_lt depth 5) (nat_lt depth 9)
+  where
+    go : (a b c : Bool) → (if a then 0 else if b then 1 else if c then 2 else 3) ≤ 3
+    go true b c = omega arith
+    go false true c = omega arith
+    go false false true = omega arith
+    go false false false = omega arith
+
+pub count-few : (depth : ℕ) → count_high depth ≤ 4
+count-few depth = go (nat_lt depth 2) (nat_lt depth 4) (nat_lt depth 8) (nat_lt depth 16)
+  where
+    go : (a b c d : Bool) → (if a then 0 else if b then 1 else if c then 2 else if d then 3 else 4) ≤ 4
+    go true b c d = omega arith
+    go false true c d = omega arith
+    go false false true d = omega arith
+    go false false false true = omega arith
+    go false false false false = omega arith

@@ -10,3 +10,11 @@ mod Evened
 mod Ported
 mod Outs
 mod Named
+mod Typed
+mod Walk
+mod Plainly
+mod Facts
+mod Domain
+mod Shared
+mod Items
+mod SharedItems

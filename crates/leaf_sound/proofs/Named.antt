@@ -35,7 +35,7 @@ use Rattle.leaf_sound.proofs.Outs.{out_start, outs-rise, PortDriven, all-driven,
 -- ---- lines
 
 -- how many of the lines declare the name
-abbrev gives : Name → Option Declared → ℕ
+abbrev pub gives : Name → Option Declared → ℕ
 gives x None = 0
 gives x (Some d) = one_if (bytes_eq x d.name)
 

@@ -42,7 +42,7 @@ member-drives x g [] m = absurd m
 member-drives x g (y ∷ ys) (inl e) = let split = driven-append x y.nets (flat_map its_nets ys) in let same : driven x y.nets ≡ driven x g.nets = ap (λ (z : Group). driven x z.nets) e in omega (arith, split, same)
 member-drives x g (y ∷ ys) (inr m) = let split = driven-append x y.nets (flat_map its_nets ys) in let rest = member-drives x g ys m in omega (arith, split, rest)
 
-map-append : (a b : List Tied) → map (λ (t : Tied). t.port) (a ++ b) ≡ map (λ (t : Tied). t.port) a ++ map (λ (t : Tied). t.port) b
+pub map-append : (a b : List Tied) → map (λ (t : Tied). t.port) (a ++ b) ≡ map (λ (t : Tied). t.port) a ++ map (λ (t : Tied). t.port) b
 map-append [] b = refl
 map-append (t ∷ a) b = ap (λ z. t.port ∷ z) (map-append a b)
 

@@ -48,7 +48,7 @@ port-not p n d (suc o) below absent = go (is_some (neighbour p n (suc o))) refl
     go false e = refl
     go true e = absurd (absent (below, e))
 
-uses-leaving : (p : Plan) (n o : ℕ) → HasLink p n o → uses_slot p n (leaving_slot p n o) ≡ true
+pub uses-leaving : (p : Plan) (n o : ℕ) → HasLink p n o → uses_slot p n (leaving_slot p n o) ≡ true
 uses-leaving p n o link = any-member (ports p - 1) (λ k. link_uses p n (leaving_slot p n o) k (neighbour p n k)) o (let below = link.0 in omega (arith, below)) (go (neighbour p n o) link.1)
   where
     self : (leaving_slot p n o == leaving_slot p n o) ≡ true
@@ -58,7 +58,7 @@ uses-leaving p n o link = any-member (ports p - 1) (λ k. link_uses p n (leaving
     go None e = absurd (cc e)
     go (Some m) e = ap (λ b. b || (arriving_slot p m (opposite o) == leaving_slot p n o)) self
 
-uses-arriving : (p : Plan) (n port m : ℕ) → neighbour p n port ≡ Some m → uses_slot p n (arriving_slot p m (opposite port)) ≡ true
+pub uses-arriving : (p : Plan) (n port m : ℕ) → neighbour p n port ≡ Some m → uses_slot p n (arriving_slot p m (opposite port)) ≡ true
 uses-arriving p n port m e =
     any-member (ports p - 1) (λ k. link_uses p n (arriving_slot p m (opposite port)) k (neighbour p n k)) port (let below = (link-there p n port m e).0 in omega (arith, below))
     (ap (link_uses p n (arriving_slot p m (opposite port)) port) e ∙ ap (λ b. (leaving_slot p n port == arriving_slot p m (opposite port)) || b) self ∙ last (leaving_slot p n port == arriving_slot p m (opposite port)))
@@ -71,68 +71,65 @@ uses-arriving p n port m e =
     last false = refl
 
 module _ (p : Plan) (n : ℕ) (names : LeafNames) (nets : NetNames) (q : PortNames) (base : ℕ → ℕ) (size : BufferSize) (slot_high dest_bits link_flit link_channel : ℕ) (others : List Group) where
-  gs : List Group
+  abbrev pub gs : List Group
   gs = leaf_groups p n names nets q base size slot_high dest_bits link_flit link_channel
 
   -- ---- where each group stands
 
   in-slots : (g : Group) → Member g (slot_groups p n names slot_high) → Member g gs
-  unfolding gs
   in-slots g m = in-front g (slot_groups p n names slot_high) _ m
 
-  slot-member : (k : ℕ) → k < length p.slots → uses_slot p n k ≡ true → Member (slot_group (names.slot k) slot_high p.slots (length p.domains) k) gs
+  pub slot-member : (k : ℕ) → k < length p.slots → uses_slot p n k ≡ true → Member (slot_group (names.slot k) slot_high p.slots (length p.domains) k) gs
   slot-member k below used =
       in-slots (slot_group (names.slot k) slot_high p.slots (length p.domains) k)
       (in-each (slot_group (names.slot k) slot_high p.slots (length p.domains) k) (length p.slots) (λ j. if uses_slot p n j then slot_group (names.slot j) slot_high p.slots (length p.domains) j ∷ [] else []) k below
       (in-then (slot_group (names.slot k) slot_high p.slots (length p.domains) k) (uses_slot p n k) (slot_group (names.slot k) slot_high p.slots (length p.domains) k ∷ []) [] used (inl refl)))
 
-  in-shared : (g : Group) (o : ℕ) → HasLink p n o → Member g (arrival_group p n nets q size dest_bits o ∷ link_group (link_names p n names nets o) (link_channel + link_flit) (length p.domains) (p.stages - 1) ∷ []) → Member g gs
-  unfolding gs
+  pub in-shared : (g : Group) (o : ℕ) → HasLink p n o → Member g (arrival_group p n nets q size dest_bits o ∷ link_group (link_names p n names nets o) (link_channel + link_flit) (length p.domains) (p.stages - 1) ∷ []) → Member g gs
   in-shared g o link m =
       in-back g (slot_groups p n names slot_high) _ (in-front g (shared_groups p n names nets q size dest_bits link_flit link_channel) _
       (in-each g (ports p) (λ o. if is_some (neighbour p n o) then arrival_group p n nets q size dest_bits o ∷ link_group (link_names p n names nets o) (link_channel + link_flit) (length p.domains) (p.stages - 1) ∷ [] else []) o link.0
       (in-then g (is_some (neighbour p n o)) (arrival_group p n nets q size dest_bits o ∷ link_group (link_names p n names nets o) (link_channel + link_flit) (length p.domains) (p.stages - 1) ∷ []) [] link.1 m)))
 
   module _ (d : ℕ) (there : d < length p.domains) where
-    in-domain : (g : Group) → Member g (domain_groups p n names nets q base size dest_bits link_flit link_channel d) → Member g gs
-    unfolding gs
+    pub in-domain : (g : Group) → Member g (domain_groups p n names nets q base size dest_bits link_flit link_channel d) → Member g gs
     in-domain g m =
         in-back g (slot_groups p n names slot_high) _ (in-back g (shared_groups p n names nets q size dest_bits link_flit link_channel) _
         (in-each g (length p.domains) (domain_groups p n names nets q base size dest_bits link_flit link_channel) d there m))
 
-    before : (g : Group) (o : ℕ) → HasPort p n d o → Member g (led_group p n names nets dest_bits d o ∷ alloc_group p d n o (names.alloc d o) (alloc_size p d o) ∷ ready_group p n names nets q size d o ∷ []) → Member g gs
+    pub before : (g : Group) (o : ℕ) → HasPort p n d o → Member g (led_group p n names nets dest_bits d o ∷ alloc_group p d n o (names.alloc d o) (alloc_size p d o) ∷ ready_group p n names nets q size d o ∷ []) → Member g gs
     before g o port m =
         in-domain g (inr (inr (in-front g (before_switch p n d names nets q size dest_bits) _
         (in-each g (ports p) (λ o. if has_port p n d o then led_group p n names nets dest_bits d o ∷ alloc_group p d n o (names.alloc d o) (alloc_size p d o) ∷ ready_group p n names nets q size d o ∷ [] else unready_group p nets d o ∷ []) o (port-below p n d o port)
         (in-then g (has_port p n d o) (led_group p n names nets dest_bits d o ∷ alloc_group p d n o (names.alloc d o) (alloc_size p d o) ∷ ready_group p n names nets q size d o ∷ []) (unready_group p nets d o ∷ []) (port-has p n d o port) m)))))
 
-    unready-member : (o : ℕ) → o < ports p → (HasPort p n d o → ⊥) → Member (unready_group p nets d o) gs
+    pub unready-member : (o : ℕ) → o < ports p → (HasPort p n d o → ⊥) → Member (unready_group p nets d o) gs
     unready-member o below absent =
         in-domain (unready_group p nets d o) (inr (inr (in-front (unready_group p nets d o) (before_switch p n d names nets q size dest_bits) _
         (in-each (unready_group p nets d o) (ports p) (λ o. if has_port p n d o then led_group p n names nets dest_bits d o ∷ alloc_group p d n o (names.alloc d o) (alloc_size p d o) ∷ ready_group p n names nets q size d o ∷ [] else unready_group p nets d o ∷ []) o below
         (in-else (unready_group p nets d o) (has_port p n d o) (led_group p n names nets dest_bits d o ∷ alloc_group p d n o (names.alloc d o) (alloc_size p d o) ∷ ready_group p n names nets q size d o ∷ []) (unready_group p nets d o ∷ []) (port-not p n d o below absent) (inl refl))))))
 
-    middle : (g : Group) → Member g (switch_group (switch_names names nets d) (switch_size p d) ∷ ends_group p nets d ∷ idle_group (names.idle d) (nets.filled d) (nets.ends d) (high p d)
+    pub middle : (g : Group) → Member g (switch_group (switch_names names nets d) (switch_size p d) ∷ ends_group p nets d ∷ idle_group (names.idle d) (nets.filled d) (nets.ends d) (high p d)
         ∷ (behind_switch p n d names nets dest_bits ++ (sent_groups p n d names nets q base size dest_bits link_flit link_channel ++ (link_buffers p n d names nets q size link_flit link_channel ++ (if hosts p n d then local_groups p n d names nets q size dest_bits else []))))) → Member g gs
     middle g m = in-domain g (inr (inr (in-back g (before_switch p n d names nets q size dest_bits) _ m)))
 
-    behind : (g : Group) (o : ℕ) → HasPort p n d o → Member g (freed_group p names nets d o ∷ flit_group p names nets dest_bits d o ∷ []) → Member g gs
+    pub behind : (g : Group) (o : ℕ) → HasPort p n d o → Member g (freed_group p names nets d o ∷ flit_group p names nets dest_bits d o ∷ []) → Member g gs
     behind g o port m =
         middle g (inr (inr (inr (in-front g (behind_switch p n d names nets dest_bits) _
         (in-each g (ports p) (λ o. if has_port p n d o then freed_group p names nets d o ∷ flit_group p names nets dest_bits d o ∷ [] else []) o (port-below p n d o port)
         (in-then g (has_port p n d o) (freed_group p names nets d o ∷ flit_group p names nets dest_bits d o ∷ []) [] (port-has p n d o port) m))))))
 
-    sent : (g : Group) (o : ℕ) → HasLink p n o → Member g (each_group (link_channels p d) (channel_groups p d names nets q base size o) ++ (word_group p n names nets dest_bits link_flit link_channel d o ∷ pulse_group p names nets d o ∷ [])) → Member g gs
+    pub sent : (g : Group) (o : ℕ) → HasLink p n o → Member g (each_group (link_channels p d) (channel_groups p d names nets q base size o) ++ (word_group p n names nets dest_bits link_flit link_channel d o ∷ pulse_group p names nets d o ∷ [])) → Member g gs
     sent g o link m =
         middle g (inr (inr (inr (in-back g (behind_switch p n d names nets dest_bits) _ (in-front g (sent_groups p n d names nets q base size dest_bits link_flit link_channel) _
         (in-each g (ports p) (λ o. if is_some (neighbour p n o) then each_group (link_channels p d) (channel_groups p d names nets q base size o) ++ (word_group p n names nets dest_bits link_flit link_channel d o ∷ pulse_group p names nets d o ∷ []) else []) o link.0
         (in-then g (is_some (neighbour p n o)) (each_group (link_channels p d) (channel_groups p d names nets q base size o) ++ (word_group p n names nets dest_bits link_flit link_channel d o ∷ pulse_group p names nets d o ∷ [])) [] link.1 m)))))))
 
-    channel : (g : Group) (o x : ℕ) → HasLink p n o → x < link_channels p d → Member g (channel_groups p d names nets q base size o x) → Member g gs
+    pub channel : (g : Group) (o x : ℕ) → HasLink p n o → x < link_channels p d → Member g (channel_groups p d names nets q base size o x) → Member g gs
     channel g o x link below m =
         sent g o link (in-front g (each_group (link_channels p d) (channel_groups p d names nets q base size o)) _ (in-each g (link_channels p d) (channel_groups p d names nets q base size o) x below m))
 
-    linked-member : (port m c : ℕ) → neighbour p n port ≡ Some m → c < link_channels p d → Member (buffer_group (names.buffer d port c) size (link_push p names q link_flit link_channel d port m c) (pop_of p nets d port c)) gs
+    pub linked-member : (port m c : ℕ) → neighbour p n port ≡ Some m → c < link_channels p d → Member (buffer_group (names.buffer d port c) size (link_push p names q link_flit link_channel d port m c) (pop_of p nets d port c)) gs
     linked-member port m c e below =
         middle g (inr (inr (inr (in-back g (behind_switch p n d names nets dest_bits) _ (in-back g (sent_groups p n d names nets q base size dest_bits link_flit link_channel) _ (in-front g (link_buffers p n d names nets q size link_flit link_channel) _
         (in-each g (ports p) (λ port. to_neighbour (λ m. each_group (link_channels p d) (λ c. buffer_group (names.buffer d port c) size (link_push p names q link_flit link_channel d port m c) (pop_of p nets d port c) ∷ [])) (neighbour p n port)) port (link-there p n port m e).0
@@ -142,12 +139,12 @@ module _ (p : Plan) (n : ℕ) (names : LeafNames) (nets : NetNames) (q : PortNam
         g : Group
         g = buffer_group (names.buffer d port c) size (link_push p names q link_flit link_channel d port m c) (pop_of p nets d port c)
 
-    local : (g : Group) → hosts p n d ≡ true → Member g (local_groups p n d names nets q size dest_bits) → Member g gs
+    pub local : (g : Group) → hosts p n d ≡ true → Member g (local_groups p n d names nets q size dest_bits) → Member g gs
     local g h m =
         middle g (inr (inr (inr (in-back g (behind_switch p n d names nets dest_bits) _ (in-back g (sent_groups p n d names nets q base size dest_bits link_flit link_channel) _ (in-back g (link_buffers p n d names nets q size link_flit link_channel) _
         (in-then g (hosts p n d) (local_groups p n d names nets q size dest_bits) [] h m)))))))
 
-    entered-member : (c : ℕ) → hosts p n d ≡ true → c < channels p d → Member (buffer_group (names.buffer d 0 c) size (enter_at (attach_names names nets d) (attach_size p size dest_bits d) c) (pop_of p nets d 0 c)) gs
+    pub entered-member : (c : ℕ) → hosts p n d ≡ true → c < channels p d → Member (buffer_group (names.buffer d 0 c) size (enter_at (attach_names names nets d) (attach_size p size dest_bits d) c) (pop_of p nets d 0 c)) gs
     entered-member c h below =
         local (buffer_group (names.buffer d 0 c) size (enter_at (attach_names names nets d) (attach_size p size dest_bits d) c) (pop_of p nets d 0 c)) h
         (inr (inr (inr (in-each (buffer_group (names.buffer d 0 c) size (enter_at (attach_names names nets d) (attach_size p size dest_bits d) c) (pop_of p nets d 0 c)) (channels p d)
