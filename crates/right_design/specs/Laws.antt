@@ -14,8 +14,8 @@ use Rattle.right_design.specs.Alike.{AreAlike, OffersFit}
 -- Domains don't interfere in a right design: two runs whose inputs agree at the ports of a domain in every cycle have
 -- equal outputs at them in every cycle, whatever else the inputs are, and for any two first contents of memories.
 abbrev pub DomainsApart : Type 0
-DomainsApart = (p : Plan) (d : Design) → IsRightDesign p d → (k : ℕ) (first first_other : Name → Name → ℕ → ℕ) (one other : ℕ → Name → ℕ)
-    (values others : ℕ → Nets) → IsRun d first one values → IsRun d first_other other others
+DomainsApart = (p : Plan) (d : Design) → IsRightDesign p d → (k : ℕ) (first first_other : Name → Name → ℕ → ℕ)
+    (one other : ℕ → Name → ℕ) (values others : ℕ → Nets) → IsRun d first one values → IsRun d first_other other others
     → ((t : ℕ) → AreAlike p k false (one t) (other t))
     → (t : ℕ) → AreAlike p k true (values t).top (others t).top
 

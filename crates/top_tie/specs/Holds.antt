@@ -75,7 +75,8 @@ pub record AreShapePorts (p : Plan) (n : ℕ) (q : PortNames) (out : OutNames) :
 abbrev pub bundle_group : Plan → ℕ → TextSizes → LeafNames → ℕ → ℕ → Group
 bundle_group p n z kept port r =
     if nat_lt r 64
-    then credit_out_group kept (name_with (codes "co") (n ∷ port ∷ [])) port 0 (min (credit_bits p) 64) z.domain z.channel
+    then credit_out_group kept (name_with (codes "co") (n ∷ port ∷ [])) port 0 (min (credit_bits p) 64) z.domain
+    z.channel
     else credit_out_group kept (name_with (codes "co") (n ∷ port ∷ 1 ∷ [])) port 64 (credit_bits p - 64) z.domain
     z.channel
 
