@@ -4,6 +4,7 @@ pub mod Wheeled
 pub mod Judged
 pub mod Ended
 pub mod Simulated
+pub mod Stressed
 pub mod Loadings
 pub mod Makings
 pub mod OneReport

@@ -12,6 +12,7 @@ pub mod Turning
 pub mod Accepted
 pub mod Routes
 pub mod Simulate
+pub mod Stress
 pub mod TextRead
 pub mod Replay
 pub mod Meaning
