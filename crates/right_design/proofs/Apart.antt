@@ -41,7 +41,7 @@ module _ (p : Plan) (d : Design) (right : IsRightDesign p d) (k : ℕ) (first fi
     -- an input port of the domain
     same : (name : Name) → Owns h name → one t name ≡ other t name → v.top name ≡ u.top name
     same name own e =
-        let kind = owned-kind p d right has.number h has.at name own in
+        let kind = owned-kind p d right.sound right.shape.ports has.number h has.at name own in
         run.fed t name kind ∙ e ∙ sym (run_other.fed t name kind)
 
     same-offer : offer_at v h ≡ offer_at u h

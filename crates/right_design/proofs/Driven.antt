@@ -8,7 +8,7 @@ use Rattle.vl_tree.specs.Values.{Name, Leaf, Design}
 use Rattle.vl_model.specs.Meaning.{one_if}
 use Rattle.vl_model.specs.Leaf.{leaf_widths}
 use Rattle.vl_model.specs.Lines.{leaf_lines, top_lines, is_input, is_memory}
-use Rattle.vl_model.specs.Rules.{is_kind}
+use Rattle.vl_model.specs.Rules.{is_kind, IsSound as IsSoundDesign}
 use Rattle.vl_model.specs.Whole.{Nets, IsRun, Fit, top_widths}
 use Rattle.vl_model.specs.Settle.{settled, with_inputs, inside_stepped, run}
 use Rattle.vl_model.proofs.One.{known}
@@ -26,7 +26,7 @@ use Rattle.noc_model.specs.Events.{offer_events, drop_events, got_events, ejecte
 use Rattle.noc_model.specs.Driver.{Driver, offer_at as offer_of, hears_at, driven, after_taken, after_got, next_state, next_states, driven_events, driver_states}
 use Rattle.noc_model.proofs.HostTiles.{HasAttachment, attached}
 use Rattle.noc_model.proofs.OwnAttachments.{IsOwn, AreSame, flat_map-same, step-same}
-use Rattle.gen_kit.specs.Ports.{host_name, host_ports}
+use Rattle.gen_kit.specs.Ports.{host_name, host_ports, top_ports}
 use Rattle.gen_kit.specs.Replayed.{at, is_on, offer_at, ejected_at, host_of, input_of, host_events, text_events, driven_inputs, moved, Going, nets_in, going_next, at_start, replayed, states_after, address_of, payload_of, last_of}
 use Rattle.gen_kit.specs.Right.{Shows, IsRightDesign}
 use Rattle.vl_run.specs.Top.{inputs_of}
@@ -38,52 +38,64 @@ use Rattle.surf_replay.proofs.Cycles.{bit, read-offer}
 use Rattle.surf_replay.proofs.Fed.{Owns, same-inputs, given-ov, given-oa, given-op, given-ol, given-hr}
 use Rattle.surf_replay.proofs.Feeding.{all-fit}
 use Rattle.right_design.specs.Alike.{OffersFit}
-use Rattle.right_design.specs.Laws.{ReplayIsSimulation, ReplayStands}
+use Rattle.right_design.specs.Driven.{going_at, driven_nets, inputs_at}
+use Rattle.right_design.specs.Laws.{DrivenIsRun, ReplayIsSimulation, ReplayStands}
 use Rattle.right_design.proofs.Shown.{shown-at, ready-on, dropped-on, ejected-on, owns-ov, owns-oa, owns-op, owns-ol, owns-hr, owned-kind}
 
-module _ (p : Plan) (d : Design) (sound : IsSound p) (right : IsRightDesign p d) (v : Driver) (fit : OffersFit v) (states : ℕ → List ℕ) where
-  -- ---- the driven run is a run
+-- ---- the driven run is a run
 
-  abbrev going : ℕ → Going
-  going zero = at_start d states
-  going (suc t) = going_next p d v t (going t)
-
-  abbrev nets : ℕ → Nets
-  nets t = nets_in p d v t (going t)
-
-  abbrev inputs : ℕ → Name → ℕ
-  inputs t = driven_inputs v t (going t).states 0 p.hosts
-
+module _ (p : Plan) (d : Design) (sound : IsSoundDesign d) (ports : d.top.ports ≡ top_ports p) (v : Driver) (fit : OffersFit v) (states : ℕ → List ℕ) where
   abbrev none : Name → Name → ℕ → ℕ
   none i m k = 0
 
-  run-is : (t : ℕ) → run d none inputs t ≡ nets t
+  run-is : (t : ℕ) → run d none (inputs_at p d v states) t ≡ driven_nets p d v states t
   unfolding run
   run-is zero = refl
-  run-is (suc t) = ap (λ (s : Nets). settled d (with_inputs d (inputs (suc t)) (inside_stepped d.leaves d.top.items s.inside))) (run-is t)
+  run-is (suc t) = ap (λ (s : Nets). settled d (with_inputs d (inputs_at p d v states (suc t)) (inside_stepped d.leaves d.top.items s.inside))) (run-is t)
 
-  input-fits : (t : ℕ) (n : Name) → is_kind is_input (top_lines d.top) n ≡ true → inputs t n < 2 ^ (top_widths d).net n
+  input-fits : (t : ℕ) (n : Name) → is_kind is_input (top_lines d.top) n ≡ true → inputs_at p d v states t n < 2 ^ (top_widths d).net n
   input-fits t n kind =
       subst (λ (f : Name → ℕ). f n < 2 ^ (top_widths d).net n) by-name
-      (inputs-fit (top_lines d.top) d.top.ports (ports-first d right.sound).0 numbers are-inputs n (input-among d.top.ports d.top.items n kind))
+      (inputs-fit (top_lines d.top) d.top.ports (ports-first d sound).0 numbers are-inputs n (input-among d.top.ports d.top.items n kind))
     where
       numbers : List ℕ
-      numbers = all_numbers v t (going t).states 0 p.hosts
+      numbers = all_numbers v t (going_at p d v states t).states 0 p.hosts
 
       are-inputs : AreInputs d.top.ports numbers
-      are-inputs = subst (λ ps. AreInputs ps numbers) (sym right.shape.ports) (all-fit v t (going t).states p.hosts 0 (λ j a b. fit j t ((going t).states j)))
+      are-inputs = subst (λ ps. AreInputs ps numbers) (sym ports) (all-fit v t (going_at p d v states t).states p.hosts 0 (λ j a b. fit j t ((going_at p d v states t).states j)))
 
-      by-name : inputs_of d.top.ports numbers ≡ inputs t
-      by-name = ap (λ ps. inputs_of ps numbers) right.shape.ports ∙ same-inputs v t (going t).states p.hosts
+      by-name : inputs_of d.top.ports numbers ≡ inputs_at p d v states t
+      by-name = ap (λ ps. inputs_of ps numbers) ports ∙ same-inputs v t (going_at p d v states t).states p.hosts
 
   abbrev all-zero : Leaf → Name → List Join → Type 0
   all-zero l n joins = (m : Name) (i : ℕ) → is_kind is_memory (leaf_lines l) m ≡ true → none n m i < 2 ^ (leaf_widths l).word m
 
-  is-run : IsRun d none inputs nets
-  is-run = subst (IsRun d none inputs) (λ i t. run-is t i) (one-run d right.sound none inputs fits).0
+  pub run-driven : IsRun d none (inputs_at p d v states) (driven_nets p d v states)
+  run-driven = subst (IsRun d none (inputs_at p d v states)) (λ i t. run-is t i) (one-run d sound none (inputs_at p d v states) fits).0
     where
-      fits : Fit d none inputs
-      fits = record { input = input-fits; word = each-map d.leaves (λ l n joins. Unit {0}) all-zero (λ l n joins there m i kind. pow_pos ((leaf_widths l).word m)) d.top.items (known d right.sound) }
+      fits : Fit d none (inputs_at p d v states)
+      fits = record { input = input-fits; word = each-map d.leaves (λ l n joins. Unit {0}) all-zero (λ l n joins there m i kind. pow_pos ((leaf_widths l).word m)) d.top.items (known d sound) }
+
+pub driven-is-run : DrivenIsRun
+driven-is-run p d sound ports v fit states = run-driven p d sound ports v fit states
+
+-- ---- of a right design
+
+module _ (p : Plan) (d : Design) (sound : IsSound p) (right : IsRightDesign p d) (v : Driver) (fit : OffersFit v) (states : ℕ → List ℕ) where
+  abbrev going : ℕ → Going
+  going t = going_at p d v states t
+
+  abbrev nets : ℕ → Nets
+  nets t = driven_nets p d v states t
+
+  abbrev inputs : ℕ → Name → ℕ
+  inputs t = inputs_at p d v states t
+
+  abbrev empty : Name → Name → ℕ → ℕ
+  empty i m k = 0
+
+  is-run : IsRun d empty inputs nets
+  is-run = run-driven p d right.sound right.shape.ports v fit states
 
   -- ---- what an attachment puts on its ports
 
@@ -92,7 +104,7 @@ module _ (p : Plan) (d : Design) (sound : IsSound p) (right : IsRightDesign p d)
     state = (going t).states j
 
     top-is : (n : Name) → Owns h n → (nets t).top n ≡ inputs t n
-    top-is n own = is-run.fed t n (owned-kind p d right j h e n own)
+    top-is n own = is-run.fed t n (owned-kind p d right.sound right.shape.ports j h e n own)
 
     distinct : Distinct (flat_map host_ports p.hosts)
     distinct = subst Distinct right.shape.ports (ports-first d right.sound).1
@@ -126,7 +138,7 @@ module _ (p : Plan) (d : Design) (sound : IsSound p) (right : IsRightDesign p d)
     S t = state_after p k given t
 
     shows : (t j : ℕ) (h : Host) → slice_get p.hosts j ≡ Some h → h.domain ≡ k → Shows p (nets t) h (S t h.tile)
-    shows t j h e own = subst (λ i. Shows p (nets t) h (state_after p i (λ u. input_of i (nets u)) t h.tile)) own (shown-at p d none inputs nets t j h right is-run e)
+    shows t j h e own = subst (λ i. Shows p (nets t) h (state_after p i (λ u. input_of i (nets u)) t h.tile)) own (shown-at p d empty inputs nets t j h right is-run e)
 
     -- the attachments of the domain stand alike
     abbrev Alike : ℕ → (ℕ → List ℕ) → Type 0

@@ -6,7 +6,7 @@ use Rattle.std.proofs.lemmas.Option.{none-some}
 use Rattle.vl_tree.specs.Values.{Name, Design}
 use Rattle.vl_model.specs.Meaning.{one_if}
 use Rattle.vl_model.specs.Lines.{is_input, top_lines}
-use Rattle.vl_model.specs.Rules.{is_kind}
+use Rattle.vl_model.specs.Rules.{is_kind, IsSound as IsSoundDesign}
 use Rattle.vl_model.specs.Whole.{Nets, IsRun}
 use Rattle.vl_model.proofs.Settling.{itself}
 use Rattle.noc_model.specs.declared.Flit.{Flit}
@@ -17,7 +17,7 @@ use Rattle.noc_model.specs.Tile.{Tile}
 use Rattle.noc_model.specs.Step.{is_open}
 use Rattle.noc_model.specs.Run.{state_after}
 use Rattle.noc_model.specs.Events.{ejected_of}
-use Rattle.gen_kit.specs.Ports.{host_name, host_ports}
+use Rattle.gen_kit.specs.Ports.{host_name, host_ports, top_ports}
 use Rattle.gen_kit.specs.Replayed.{at, is_on, ejected_at, input_of}
 use Rattle.gen_kit.specs.Right.{ShowsFlit, Shows, IsRightDesign}
 use Rattle.vl_run.proofs.Inputs.{has_input, among-input}
@@ -78,7 +78,7 @@ pub owns-hr : (h : Host) → Owns h (host_name (codes "hr") h)
 owns-hr h = let self = itself (host_name (codes "hr") h) in rw self refl
 
 -- an attachment's input ports are inputs of the design
-pub owned-kind : (p : Plan) (d : Design) → IsRightDesign p d → (j : ℕ) (h : Host) → slice_get p.hosts j ≡ Some h → (n : Name) → Owns h n → is_kind is_input (top_lines d.top) n ≡ true
-owned-kind p d right j h e n own =
-    among-input (top_lines d.top) d.top.ports (ports-first d right.sound).0 n
-    (subst (λ ps. has_input ps n ≡ true) (sym right.shape.ports) (among p.hosts j h e n own))
+pub owned-kind : (p : Plan) (d : Design) → IsSoundDesign d → d.top.ports ≡ top_ports p → (j : ℕ) (h : Host) → slice_get p.hosts j ≡ Some h → (n : Name) → Owns h n → is_kind is_input (top_lines d.top) n ≡ true
+owned-kind p d sound ports j h e n own =
+    among-input (top_lines d.top) d.top.ports (ports-first d sound).0 n
+    (subst (λ ps. has_input ps n ≡ true) (sym ports) (among p.hosts j h e n own))
