@@ -78,7 +78,7 @@ module _ (p : Plan) (n : ℕ) (sound : IsSound p) where
       (group-next its_heads 1 1 1 (registers (channel_bits p + flit_bits p) (leaf_names.row o) 1 (p.stages - 1 + 1)) (no-groups its_heads 1 1 (omega arith))))
       (λ absent. no-groups its_heads 1 1 (omega arith)))
 
-  heads : GroupsRise its_heads 1 (2048 * 1024 + 1) (inner_groups p n)
+  pub heads : GroupsRise its_heads 1 (2048 * 1024 + 1) (inner_groups p n)
   heads =
       groups-join its_heads 1 1 (2048 * 1024 + 1) slots-head
       (groups-join its_heads 1 1 (2048 * 1024 + 1) shared-head
@@ -115,7 +115,7 @@ module _ (p : Plan) (n : ℕ) (sound : IsSound p) where
       (no-groups its_nets (2048 * (1536 + suc o)) (2048 * (1536 + suc o)) (omega arith))))
       (λ absent. no-groups its_nets (2048 * (1536 + o)) (2048 * (1536 + suc o)) (omega arith))))
 
-  nets : GroupsRise its_nets (2048 * 1024 + 1) (2048 * 4096) (inner_groups p n)
+  pub nets : GroupsRise its_nets (2048 * 1024 + 1) (2048 * 4096) (inner_groups p n)
   nets =
       groups-join its_nets (2048 * 1024 + 1) (2048 * 1536) (2048 * 4096) slots-nets
       (groups-join its_nets (2048 * 1536) (2048 * 2048) (2048 * 4096) shared-nets
@@ -155,7 +155,7 @@ module _ (p : Plan) (n : ℕ) (sound : IsSound p) where
       (no-groups its_moves (2048 * (4608 + suc o)) (2048 * (4608 + suc o)) (omega arith))))
       (λ absent. no-groups its_moves (2048 * (4608 + o)) (2048 * (4608 + suc o)) (omega arith))))
 
-  moves : GroupsRise its_moves (2048 * 4096) (2048 * 6144) (inner_groups p n)
+  pub moves : GroupsRise its_moves (2048 * 4096) (2048 * 6144) (inner_groups p n)
   moves =
       groups-join its_moves (2048 * 4096) (2048 * 4608) (2048 * 6144) slots-move
       (groups-join its_moves (2048 * 4608) (2048 * 5120) (2048 * 6144) shared-move

@@ -27,7 +27,7 @@ Backed (mem h n last ∷ is) = ⊥
 Backed (clocked n k e ∷ is) = ⊥
 Backed (store c n i e ∷ is) = ⊥
 
-backed-join : (a b : List Item) → Backed a → Backed b → Backed (a ++ b)
+pub backed-join : (a b : List Item) → Backed a → Backed b → Backed (a ++ b)
 backed-join [] b x y = y
 backed-join (wire h n ∷ is) b x y = ((let first = x.0 in let split = driven-append n is b in omega (arith, first, split)), backed-join is b x.1 y)
 backed-join (assign n e ∷ is) b x y = backed-join is b x y

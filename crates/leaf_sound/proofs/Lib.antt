@@ -18,3 +18,13 @@ mod Domain
 mod Shared
 mod Items
 mod SharedItems
+mod DomainItems
+mod SwitchItems
+mod LinkItems
+mod AllItems
+mod OutItems
+mod Priors
+mod Heads
+mod Readied
+mod Sounded
+mod Joint

@@ -116,7 +116,7 @@ named-has P x (q ∷ qs) all some = go (bytes_eq x q.name) refl (named-has P x q
     go true e rest = (q, all.0, one-name x q.name e)
     go false e rest = rest (let none = ap one_if e in omega (arith, none, some))
 
-port-lines : (x : Name) (ps : List Port) → drivers [] (map port ps) x ≡ 0
+pub port-lines : (x : Name) (ps : List Port) → drivers [] (map port ps) x ≡ 0
 port-lines x [] = refl
 port-lines x (q ∷ qs) = rw (port-lines x qs) refl
 

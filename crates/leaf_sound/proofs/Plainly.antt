@@ -31,7 +31,7 @@ any-then test (d ∷ ds) rest r = go (test d) (any-then test ds rest r)
     go true e = refl
     go false e = e
 
-some-digit : (ds rest : List ℕ) → 0 < length ds → AllDigits 10 ds → list_any is_ascii_digit (ds ++ rest) ≡ true
+pub some-digit : (ds rest : List ℕ) → 0 < length ds → AllDigits 10 ds → list_any is_ascii_digit (ds ++ rest) ≡ true
 some-digit [] rest some all = absurd (omega arith)
 some-digit (d ∷ ds) rest some all = rw (digit-run d (digit_from_value d all.0)).1 refl
 
@@ -45,7 +45,7 @@ rest-is n rest small run short =
     let few = length-decimal-le 20 n (omega arith) (omega arith) small in
     rw (run-then (decimal n) (95 ∷ rest) digits.0.1 run, less-true (length (decimal n ++ (95 ∷ rest))) 64 (omega (arith, few, short, length-append (decimal n) (95 ∷ rest))), any-then (λ c. c == 95) (decimal n) (95 ∷ rest) refl, some-digit (decimal n) (95 ∷ rest) digits.0.0 digits.0.1) refl
 
-last-run : (n : ℕ) → n < 2 ^ 64 → (list_all is_run (decimal n ++ []) ≡ true) × (length (decimal n ++ []) ≤ 20)
+pub last-run : (n : ℕ) → n < 2 ^ 64 → (list_all is_run (decimal n ++ []) ≡ true) × (length (decimal n ++ []) ≤ 20)
 last-run n small = (run-then (decimal n) [] (decimal_is_IsNumeral n small).0.1 refl, (let few = length-decimal-le 20 n (omega arith) (omega arith) small in omega (arith, few, length-append (decimal n) [])))
 
 pub own-plain : (t i : ℕ) → t < 2 ^ 64 → i < 2 ^ 64 → is_name (own t i) ≡ true

@@ -23,7 +23,7 @@ RiseBy low high (mem h n last ∷ is) = RiseBy low high is
 
 -- ---- how they are put together
 
-lower : (low more high : ℕ) (is : List Item) → low ≤ more → RiseBy more high is → RiseBy low high is
+pub lower : (low more high : ℕ) (is : List Item) → low ≤ more → RiseBy more high is → RiseBy low high is
 lower low more high [] le r = omega arith
 lower low more high (assign n e ∷ is) le r = ((let first = r.0 in omega (arith, first)), r.1)
 lower low more high (clocked n k e ∷ is) le r = ((let first = r.0 in omega (arith, first)), r.1)
@@ -32,7 +32,7 @@ lower low more high (wire h n ∷ is) le r = lower low more high is le r
 lower low more high (reg h n ∷ is) le r = lower low more high is le r
 lower low more high (mem h n last ∷ is) le r = lower low more high is le r
 
-joined : (low middle high : ℕ) (a b : List Item) → RiseBy low middle a → RiseBy middle high b → RiseBy low high (a ++ b)
+pub joined : (low middle high : ℕ) (a b : List Item) → RiseBy low middle a → RiseBy middle high b → RiseBy low high (a ++ b)
 joined low middle high [] b x y = lower low middle high b x y
 joined low middle high (assign n e ∷ is) b x y = (x.0, joined (rank n + 1) middle high is b x.1 y)
 joined low middle high (clocked n k e ∷ is) b x y = (x.0, joined (rank n + 1) middle high is b x.1 y)
@@ -41,7 +41,7 @@ joined low middle high (wire h n ∷ is) b x y = joined low middle high is b x y
 joined low middle high (reg h n ∷ is) b x y = joined low middle high is b x y
 joined low middle high (mem h n last ∷ is) b x y = joined low middle high is b x y
 
-higher : (low high more : ℕ) (is : List Item) → high ≤ more → RiseBy low high is → RiseBy low more is
+pub higher : (low high more : ℕ) (is : List Item) → high ≤ more → RiseBy low high is → RiseBy low more is
 higher low high more [] le r = omega arith
 higher low high more (assign n e ∷ is) le r = (r.0, higher (rank n + 1) high more is le r.1)
 higher low high more (clocked n k e ∷ is) le r = (r.0, higher (rank n + 1) high more is le r.1)
@@ -138,7 +138,7 @@ module _ (part : Group → List Item) where
 
 -- ---- each name is driven once
 
-other-rank : (n m : Name) → rank n ≢ rank m → bytes_eq n m ≡ false
+pub other-rank : (n m : Name) → rank n ≢ rank m → bytes_eq n m ≡ false
 other-rank n m differ = go (bytes_eq n m) refl
   where
     go : (b : Bool) → bytes_eq n m ≡ b → b ≡ false
@@ -171,7 +171,7 @@ once low high (wire h n ∷ is) x r = let rest = once low high is x r in omega (
 once low high (reg h n ∷ is) x r = let rest = once low high is x r in omega (arith, rest)
 once low high (mem h n last ∷ is) x r = let rest = once low high is x r in omega (arith, rest)
 
-ends-high : (low high : ℕ) (is : List Item) → RiseBy low high is → low ≤ high
+pub ends-high : (low high : ℕ) (is : List Item) → RiseBy low high is → low ≤ high
 ends-high low high [] r = r
 ends-high low high (assign n e ∷ is) r = let first = r.0 in let last = ends-high (rank n + 1) high is r.1 in omega (arith, first, last)
 ends-high low high (clocked n k e ∷ is) r = let first = r.0 in let last = ends-high (rank n + 1) high is r.1 in omega (arith, first, last)

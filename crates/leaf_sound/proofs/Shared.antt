@@ -145,7 +145,7 @@ module _ (p : Plan) (n : ℕ) (sound : IsSound p) (inside : n < tiles p) where
           omega (arith, most, rest, split)
 
   module _ (q : ℕ) (link : HasLink p n q) where
-    some-m : (m : ℕ) × (neighbour p n q ≡ Some m)
+    pub some-m : (m : ℕ) × (neighbour p n q ≡ Some m)
     some-m = go (neighbour p n q) refl link.1
       where
         go : (x : Option ℕ) → neighbour p n q ≡ x → is_some x ≡ true → (m : ℕ) × (neighbour p n q ≡ Some m)

@@ -23,18 +23,18 @@ pub record Net (lines : List Line) (kind : Kind) (n : Name) (h : ℕ) : Type 0 w
   pub plain : is_name n ≡ true
   pub is_its : is_net kind ≡ true
 
--- the use of a memory: it is one, and the index has exactly the bits for its words
-pub record UseIs (lines : List Line) (u : Use) : Type 0 where
-  pub memory : is_kind is_memory lines u.memory ≡ true
-  pub index : 2 ^ width_of (widths lines) u.index ≡ word_count (lookup lines u.memory)
-  pub read : AllByRecursion (λ m. is_kind is_net lines m ≡ true) (nets_of u.index)
-  pub plain_index : uses_of u.index ≡ []
-
 -- what is read is a net, and may be read here
 abbrev pub Reads : List Line → (Name → Type 0) → Name → Type 0
 Reads lines P m = (is_kind is_net lines m ≡ true) × P m
 
-less-true : (a b : ℕ) → a < b → nat_lt a b ≡ true
+-- the use of a memory: it is one, and the index has exactly the bits for its words
+pub record UseIs (lines : List Line) (P : Name → Type 0) (u : Use) : Type 0 where
+  pub memory : is_kind is_memory lines u.memory ≡ true
+  pub index : 2 ^ width_of (widths lines) u.index ≡ word_count (lookup lines u.memory)
+  pub read : AllByRecursion (Reads lines P) (nets_of u.index)
+  pub plain_index : uses_of u.index ≡ []
+
+pub less-true : (a b : ℕ) → a < b → nat_lt a b ≡ true
 less-true a b h = grind (arith, nat_tests)
 
 most-true : (a b : ℕ) → a ≤ b → nat_le a b ≡ true
@@ -58,7 +58,7 @@ module _ (lines : List Line) where
     pub few : k ≤ 64
     pub plain : (m : ℕ) → d ≤ m → plain_expr m e ≡ true
     pub reads : AllByRecursion (Reads lines P) (nets_of e)
-    pub uses : AllByRecursion (UseIs lines) (uses_of e)
+    pub uses : AllByRecursion (UseIs lines P) (uses_of e)
 
   -- parts of a concatenation
   pub record Are (P : Name → Type 0) (es : Exprs) (k d : ℕ) : Type 0 where
@@ -66,7 +66,7 @@ module _ (lines : List Line) where
     pub agree : all_agree (widths lines) es ≡ true
     pub plain : (m : ℕ) → d ≤ m → plain_exprs m es ≡ true
     pub reads : AllByRecursion (Reads lines P) (parts_nets es)
-    pub uses : AllByRecursion (UseIs lines) (parts_uses es)
+    pub uses : AllByRecursion (UseIs lines P) (parts_uses es)
 
   module _ (P : Name → Type 0) where
     pub net-is : {c : Kind} {n : Name} {h : ℕ} → Net lines c n h → P n → Is P (net n) (h + 1) 1
@@ -150,7 +150,7 @@ module _ (lines : List Line) where
       few = op-few op k x.few;
       plain = λ m le. rw (less-true 0 m (omega arith), x.plain (m - 1) (omega arith), y.plain (m - 1) (omega arith)) refl;
       reads = all-join (Reads lines P) (nets_of a) (nets_of b) x.reads y.reads;
-      uses = all-join (UseIs lines) (uses_of a) (uses_of b) x.uses y.uses;
+      uses = all-join (UseIs lines P) (uses_of a) (uses_of b) x.uses y.uses;
     }
 
     pub choose-is : {c a b : Expr} {k d : ℕ} → Is P c 1 d → Is P a k d → Is P b k d → Is P (choose c a b) k (d + 1)
@@ -161,7 +161,7 @@ module _ (lines : List Line) where
       few = x.few;
       plain = λ m le. rw (less-true 0 m (omega arith), z.plain (m - 1) (omega arith), x.plain (m - 1) (omega arith), y.plain (m - 1) (omega arith)) refl;
       reads = all-join (Reads lines P) (nets_of c) (nets_of a ++ nets_of b) z.reads (all-join (Reads lines P) (nets_of a) (nets_of b) x.reads y.reads);
-      uses = all-join (UseIs lines) (uses_of c) (uses_of a ++ uses_of b) z.uses (all-join (UseIs lines) (uses_of a) (uses_of b) x.uses y.uses);
+      uses = all-join (UseIs lines P) (uses_of c) (uses_of a ++ uses_of b) z.uses (all-join (UseIs lines P) (uses_of a) (uses_of b) x.uses y.uses);
     }
 
     pub none-are : (d : ℕ) → Are P no_parts 0 d
@@ -173,7 +173,7 @@ module _ (lines : List Line) where
       agree = rw (x.agree, y.agree) refl;
       plain = λ m le. rw (x.plain m le, y.plain m le) refl;
       reads = all-join (Reads lines P) (nets_of e) (parts_nets es) x.reads y.reads;
-      uses = all-join (UseIs lines) (uses_of e) (parts_uses es) x.uses y.uses;
+      uses = all-join (UseIs lines P) (uses_of e) (parts_uses es) x.uses y.uses;
     }
 
     pub cat-is : {e : Expr} {es : Exprs} {k d : ℕ} → Are P (parts e es) k d → 1 ≤ k → k ≤ 64 → Is P (cat (parts e es)) k (d + 1)

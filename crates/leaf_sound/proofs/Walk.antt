@@ -126,12 +126,12 @@ module _ (all before rest : List Line) (e : all ≡ before ++ rest) where
   plain-known [] a g = refl
   plain-known (m ∷ ns) a g = and_from (is_kind is_net before m) (list_all (is_kind is_net before) ns) (kind-same is_net all before rest m e g.0 ∙ a.0) (plain-known ns a.1 g.1)
 
-  uses-known : (us : List Use) → AllByRecursion (UseIs all) us → GivenUses before us → list_all (λ (u : Use). is_kind is_memory before u.memory) us ≡ true
-  uses-known [] a g = refl
-  uses-known (u ∷ us) a g = and_from (is_kind is_memory before u.memory) (list_all (λ (u : Use). is_kind is_memory before u.memory) us) (kind-same is_memory all before rest u.memory e g.0.0 ∙ a.0.memory) (uses-known us a.1 g.1)
+  uses-known : (P : Name → Type 0) (us : List Use) → AllByRecursion (UseIs all P) us → GivenUses before us → list_all (λ (u : Use). is_kind is_memory before u.memory) us ≡ true
+  uses-known P [] a g = refl
+  uses-known P (u ∷ us) a g = and_from (is_kind is_memory before u.memory) (list_all (λ (u : Use). is_kind is_memory before u.memory) us) (kind-same is_memory all before rest u.memory e g.0.0 ∙ a.0.memory) (uses-known P us a.1 g.1)
 
   is-known : {P : Name → Type 0} {v : Expr} {k d : ℕ} → Is all P v k d → Given before (nets_of v) → GivenUses before (uses_of v) → knows before v ≡ true
-  is-known {P} {v} x g u = and_from (list_all (is_kind is_net before) (nets_of v)) (list_all (λ (u : Use). is_kind is_memory before u.memory) (uses_of v)) (nets-known P (nets_of v) x.reads g) (uses-known (uses_of v) x.uses u)
+  is-known {P} {v} x g u = and_from (list_all (is_kind is_net before) (nets_of v)) (list_all (λ (u : Use). is_kind is_memory before u.memory) (uses_of v)) (nets-known P (nets_of v) x.reads g) (uses-known P (uses_of v) x.uses u)
 
   -- an index is as wide among the lines before
   index-wide : (i : Expr) → uses_of i ≡ [] → AllByRecursion (λ m. is_kind is_net all m ≡ true) (nets_of i) → Given before (nets_of i) → width_of (widths before) i ≡ width_of (widths all) i
@@ -143,12 +143,15 @@ module _ (all before rest : List Line) (e : all ≡ before ++ rest) where
   less-true : (a b : ℕ) → a < b → nat_lt a b ≡ true
   less-true a b h = grind (arith, nat_tests)
 
-  use-fits : (u : Use) → UseIs all u → (1 ≤ given u.memory before) × Given before (nets_of u.index) → use_fits before u ≡ true
-  use-fits u a g = eq-true (2 ^ width_of (widths before) u.index) (word_count (lookup before u.memory)) (ap (λ k. 2 ^ k) (index-wide u.index a.plain_index a.read g.1) ∙ a.index ∙ sym (ap word_count (same-found all before rest u.memory e g.0)))
+  only-reads : (P : Name → Type 0) (ns : List Name) → AllByRecursion (Reads all P) ns → AllByRecursion (λ m. is_kind is_net all m ≡ true) ns
+  only-reads P ns a = all-map (Reads all P) (λ m. is_kind is_net all m ≡ true) (λ m x. x.0) ns a
 
-  uses-fit : (us : List Use) → AllByRecursion (UseIs all) us → GivenUses before us → list_all (use_fits before) us ≡ true
-  uses-fit [] a g = refl
-  uses-fit (u ∷ us) a g = and_from (use_fits before u) (list_all (use_fits before) us) (use-fits u a.0 g.0) (uses-fit us a.1 g.1)
+  use-fits : {P : Name → Type 0} (u : Use) → UseIs all P u → (1 ≤ given u.memory before) × Given before (nets_of u.index) → use_fits before u ≡ true
+  use-fits {P} u a g = eq-true (2 ^ width_of (widths before) u.index) (word_count (lookup before u.memory)) (ap (λ k. 2 ^ k) (index-wide u.index a.plain_index (only-reads P (nets_of u.index) a.read) g.1) ∙ a.index ∙ sym (ap word_count (same-found all before rest u.memory e g.0)))
+
+  uses-fit : (P : Name → Type 0) (us : List Use) → AllByRecursion (UseIs all P) us → GivenUses before us → list_all (use_fits before) us ≡ true
+  uses-fit P [] a g = refl
+  uses-fit P (u ∷ us) a g = and_from (use_fits before u) (list_all (use_fits before) us) (use-fits u a.0 g.0) (uses-fit P us a.1 g.1)
 
   all-append : {A : Type 0} (f : A → Bool) (xs ys : List A) → list_all f xs ≡ true → list_all f ys ≡ true → list_all f (xs ++ ys) ≡ true
   all-append f [] ys a b = b
@@ -205,20 +208,17 @@ module _ (all before rest : List Line) (e : all ≡ before ++ rest) where
   order-line (clocked n k v) r = refl
   order-line (store c n i v) r = refl
 
-  only-reads : (P : Name → Type 0) (ns : List Name) → AllByRecursion (Reads all P) ns → AllByRecursion (λ m. is_kind is_net all m ≡ true) ns
-  only-reads P ns a = all-map (Reads all P) (λ m. is_kind is_net all m ≡ true) (λ m x. x.0) ns a
-
   size-line : (x : Item) → ItemIs all x → ReadyAt before x → has_size before (item x) ≡ true
   size-line (wire h n) a r = refl
   size-line (reg h n) a r = refl
   size-line (mem h n last) a r = a.2
-  size-line (assign n v) a r = uses-fit (uses_of v) a.value.uses r.2
-  size-line (clocked n k v) a r = uses-fit (uses_of v) a.value.uses r.2
+  size-line (assign n v) a r = uses-fit (May all n) (uses_of v) a.value.uses r.2
+  size-line (clocked n k v) a r = uses-fit (Any all) (uses_of v) a.value.uses r.2
   size-line (store c n i v) a r =
       and_from (use_fits before (record { memory = n; index = i })) (list_all (use_fits before) (uses_of c ++ (uses_of i ++ uses_of v)))
-      (use-fits (record { memory = n; index = i }) (record { memory = a.memory; index = ap (λ k. 2 ^ k) a.index.width ∙ a.count; read = only-reads (Any all) (nets_of i) a.index.reads; plain_index = a.no_use }) (r.0, r.3))
-      (all-append (use_fits before) (uses_of c) (uses_of i ++ uses_of v) (uses-fit (uses_of c) a.enable.uses r.2)
-      (all-append (use_fits before) (uses_of i) (uses_of v) (uses-fit (uses_of i) a.index.uses r.4) (uses-fit (uses_of v) a.value.uses r.6)))
+      (use-fits (record { memory = n; index = i }) (record { memory = a.memory; index = ap (λ k. 2 ^ k) a.index.width ∙ a.count; read = a.index.reads; plain_index = a.no_use }) (r.0, r.3))
+      (all-append (use_fits before) (uses_of c) (uses_of i ++ uses_of v) (uses-fit (Any all) (uses_of c) a.enable.uses r.2)
+      (all-append (use_fits before) (uses_of i) (uses_of v) (uses-fit (Any all) (uses_of i) a.index.uses r.4) (uses-fit (Any all) (uses_of v) a.value.uses r.6)))
 
 -- ---- the rules on all items
 

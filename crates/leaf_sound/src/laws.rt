@@ -1,6 +1,6 @@
 //! Laws over the definitions.
 
-ghost use Rattle.leaf_sound.specs.Laws.{SizesMeet, NamesKept};
+ghost use Rattle.leaf_sound.specs.Laws.{SizesMeet, NamesKept, NamesJoined, LeafSound};
 
 /// The sizes of a leaf are enough for its plan.
 pub fn sizes_meet()
@@ -10,4 +10,14 @@ pub fn sizes_meet()
 /// A leaf declares each name once and drives it once.
 pub fn names_kept()
     ensures { NamesKept }
+{}
+
+/// The names of a leaf are joined as its groups ask for, and its attachments' ports have their widths.
+pub fn names_joined()
+    ensures { NamesJoined }
+{}
+
+/// The leaf of each tile of a sound plan is sound: it breaks no rule of the small Verilog.
+pub fn leaf_sound()
+    ensures { LeafSound }
 {}

@@ -1,0 +1,92 @@
+-- All items of a leaf are right among its lines.
+use Rattle.std.proofs.Common.{◌≡◌, ◌≢◌, ℕ, zero, suc, ◌+◌, ◌-◌, ◌*◌, ◌^◌, ◌<◌, ◌≤◌, ◌⊎◌, inl, inr, Bool, true, false, List, [], ◌∷◌, ◌++◌, length, refl, sym, ◌∙◌, ap, subst, arith, Option, Some, None, is_some, nat_lt, nat_le, min, codes, if◌then◌else◌, flat_map, slice_get}
+use Rattle.std.specs.List.{AllByRecursion}
+use Rattle.std.proofs.lemmas.Bool.Decides.{nat_tests}
+use Rattle.std.proofs.lemmas.List.Sums.{sum_by-cons}
+use Rattle.vl_tree.specs.declared.tree.Op.TheVariants.{Or}
+use Rattle.vl_tree.specs.Values.{Name, Expr, Item, net, bit, part, two, cat, assign}
+use Rattle.vl_tree.specs.Tokens.{is_name}
+use Rattle.vl_model.specs.declared.kind.Kind.TheVariants.{Output, Inner, Register}
+use Rattle.vl_model.specs.Lines.{Line, port, declared, lookup}
+use Rattle.vl_model.proofs.Together.{all-join}
+use Rattle.noc_model.specs.declared.plan.DomainPart.{DomainPart}
+use Rattle.noc_model.specs.Plan.{Plan, tiles, ports, hosts, channels, link_channels, in_channels, classes, all_link_channels, channels_in}
+use Rattle.noc_model.specs.Place.{neighbour}
+use Rattle.noc_model.specs.Sound.{IsSound}
+use Rattle.flit_word.specs.Words.{dest_bits, channel_bits, flit_bits, link_bits}
+use Rattle.gen_kit.specs.Families.{row_parts}
+use Rattle.gen_kit.specs.Groups.{Group}
+use Rattle.gen_kit.specs.Ports.{name_with, host_ports}
+use Rattle.gen_kit.specs.Shape.{credit_bits, second_ties, link_ties, Tied}
+use Rattle.leaf_tie.specs.Outs.{link_out_group, local_out_group}
+use Rattle.leaf_tie.specs.Tie.{HasLink}
+use Rattle.leaf_tie.specs.Glue.{has_port}
+use Rattle.leaf_tie.specs.Whole.{each_group, domain_groups, slot_groups, shared_groups}
+use Rattle.leaf_tie.specs.Names.{leaf_names, net_names, port_names, out_names, credit_base, credit_domain, credit_channel, credit_domain_below, leaf_sizes, slot_high, credit_bundle, link_outs, inner_groups, out_groups}
+use Rattle.leaf_sound.proofs.Inner.{few-channels, few-links, few-ports}
+use Rattle.leaf_sound.proofs.Typed.{Net, Is, net-is, bit-is, part-is, two-is, deeper, wide-as, row-is}
+use Rattle.leaf_sound.proofs.Walk.{May, Any, ItemIs, AssignIs}
+use Rattle.leaf_sound.proofs.Domain as facts
+use Rattle.leaf_sound.proofs.Domain.{ls, by-register}
+use Rattle.leaf_sound.proofs.Facts.{port-is}
+use Rattle.leaf_sound.proofs.Items.{Good, GoodNets, good-nil, nets-nil, reg-next, wire-next, GoodGroups, no-groups, group-next, groups-join, groups-each, groups-if, groups-neighbour}
+use Rattle.leaf_sound.proofs.SharedItems.{slots-good, shared-good}
+use Rattle.leaf_sound.proofs.DomainItems as before
+use Rattle.leaf_sound.proofs.SwitchItems as switched
+use Rattle.leaf_sound.proofs.LinkItems as linked
+
+module _ (p : Plan) (n : ℕ) (sound : IsSound p) (inside : n < tiles p) where
+  abbrev lines : List Line
+  lines = ls p n sound inside
+
+  module _ (d : ℕ) (there : d < length p.domains) where
+    outs-local : (w : ℕ) → w < 1 → w < Rattle.leaf_tie.specs.Alloc.out_count (Rattle.leaf_tie.specs.Tie.alloc_size p d 0)
+    outs-local w less = omega arith
+
+    channel-good : (o : ℕ) (link : HasLink p n o) (x : ℕ) → x < link_channels p d → GoodGroups lines (Rattle.leaf_tie.specs.Whole.channel_groups p d leaf_names net_names (port_names n) (credit_base p) (leaf_sizes p) o x)
+    channel-good zero link x less = absurd (Rattle.leaf_sound.proofs.Ranked.no-local p n link.1)
+    channel-good (suc o) link x less =
+        let outs = Rattle.leaf_tie.proofs.Sized.out-link p d (suc o) (few-channels p d sound there).0 (λ e. omega arith) in
+        group-next lines (good-nil lines) (switched.on-good p n sound inside d there (suc o) x (facts.on p n sound inside d there (suc o) link x less) link.0 link.1 (omega (arith, outs, less))) (good-nil lines)
+        (group-next lines (reg-next lines (facts.credits p n sound inside d there (suc o) link x less) (good-nil lines)) (nets-nil lines) (linked.credit-good p n sound inside d there (suc o) link x less) (no-groups lines))
+
+    word-good : (o : ℕ) (link : HasLink p n o) → GoodNets lines (Rattle.leaf_tie.specs.Glue.word_group p n leaf_names net_names (dest_bits p) (flit_bits p) (channel_bits p) d o).nets
+    word-good zero link = absurd (Rattle.leaf_sound.proofs.Ranked.no-local p n link.1)
+    word-good (suc o) link = linked.word-good p n sound inside d there o link
+
+    link-buffers : (q m : ℕ) → q < ports p → neighbour p n q ≡ Some m → GoodGroups lines (each_group (link_channels p d) (λ c. Rattle.leaf_tie.specs.Buffers.buffer_group (leaf_names.buffer d q c) (leaf_sizes p)
+        (Rattle.leaf_tie.specs.Glue.link_push p leaf_names (port_names n) (flit_bits p) (channel_bits p) d q m c) (Rattle.leaf_tie.specs.Glue.pop_of p net_names d q c) ∷ []))
+    link-buffers zero m low e = absurd (Rattle.leaf_sound.proofs.Ranked.no-local p n (ap is_some e))
+    link-buffers (suc q) m low e =
+        groups-each lines (link_channels p d) (λ c less. group-next lines (linked.link-buffer-heads p n sound inside d there q m c low e less) (linked.link-buffer-nets p n sound inside d there q m c low e less) (good-nil lines) (no-groups lines))
+
+    domain-good : GoodGroups lines (domain_groups p n leaf_names net_names (port_names n) (credit_base p) (leaf_sizes p) (dest_bits p) (flit_bits p) (channel_bits p) d)
+    domain-good =
+        group-next lines (good-nil lines) (before.filled-good p n sound inside d there) (good-nil lines)
+        (group-next lines (good-nil lines) (before.tails-good p n sound inside d there) (good-nil lines)
+        (groups-join lines (groups-each lines (ports p) (λ o low. groups-if lines (has_port p n d o)
+        (λ has. group-next lines (good-nil lines) (before.led-good p n sound inside d there o low has) (good-nil lines)
+        (group-next lines (before.alloc-heads-good p n sound inside d there o low has) (before.alloc-good p n sound inside d there o low has) (before.alloc-moves-good p n sound inside d there o low has)
+        (group-next lines (good-nil lines) (switched.ready-good p n sound inside d there o low has) (good-nil lines) (no-groups lines))))
+        (λ absent. group-next lines (good-nil lines) (switched.unready-good p n sound inside d there o low) (good-nil lines) (no-groups lines))))
+        (group-next lines (switched.switch-heads-good p n sound inside d there) (switched.switch-good p n sound inside d there) (switched.switch-moves-good p n sound inside d there)
+        (group-next lines (good-nil lines) (switched.ends-good p n sound inside d there) (good-nil lines)
+        (group-next lines (reg-next lines (facts.idle p n sound inside d there) (good-nil lines)) (nets-nil lines) (switched.idle-good p n sound inside d there)
+        (groups-join lines (groups-each lines (ports p) (λ o low. groups-if lines (has_port p n d o)
+        (λ has. group-next lines (good-nil lines) (switched.freed-good p n sound inside d there o low has) (good-nil lines) (group-next lines (good-nil lines) (switched.flit-good p n sound inside d there o low has) (good-nil lines) (no-groups lines)))
+        (λ absent. no-groups lines)))
+        (groups-join lines (groups-each lines (ports p) (λ o low. groups-if lines (is_some (neighbour p n o))
+        (λ some. groups-join lines (groups-each lines (link_channels p d) (λ x less. channel-good o (low, some) x less))
+        (group-next lines (good-nil lines) (word-good o (low, some)) (good-nil lines)
+        (group-next lines (reg-next lines (facts.pulse p n sound inside d there o (low, some)) (good-nil lines)) (nets-nil lines) (linked.pulse-good p n sound inside d there o (low, some)) (no-groups lines))))
+        (λ none. no-groups lines)))
+        (groups-join lines (groups-each lines (ports p) (λ q low. groups-neighbour lines (neighbour p n q) (λ m e. link-buffers q m low e)))
+        (groups-if lines (hosts p n d)
+        (λ host. group-next lines (good-nil lines) (switched.on-good p n sound inside d there 0 0 (facts.on-local p n sound inside d there host) (omega arith) host (omega arith)) (good-nil lines)
+        (group-next lines (reg-next lines (facts.ejected p n sound inside d there host) (good-nil lines)) (linked.eject-good p n sound inside d there host) (linked.eject-moves p n sound inside d there host)
+        (group-next lines (linked.attach-heads-good p n sound inside d there host) (linked.attach-good p n sound inside d there host) (linked.attach-moves p n sound inside d there host)
+        (groups-each lines (channels p d) (λ c less. group-next lines (linked.local-buffer-heads p n sound inside d there host c less) (linked.local-buffer-nets p n sound inside d there host c less) (good-nil lines) (no-groups lines))))))
+        (λ away. no-groups lines))))))))))
+
+  pub inner-good : GoodGroups lines (inner_groups p n)
+  inner-good = groups-join lines (slots-good p n sound inside) (groups-join lines (shared-good p n sound inside) (groups-each lines (length p.domains) (λ d there. domain-good d there)))
