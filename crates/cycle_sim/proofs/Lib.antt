@@ -1,6 +1,11 @@
-pub mod OneStep
-pub mod Parts
-pub mod Hosts
-pub mod Alone
 pub mod SeenTile
 pub mod Turns
+pub mod Glue
+pub mod Comings
+pub mod Numbers
+pub mod Ready
+pub mod Kept
+pub mod Written
+pub mod Told
+pub mod Cycle
+pub mod Fresh

@@ -1,5 +1,5 @@
 -- What is seen at an attachment are the events of its tile.
-use Rattle.std.proofs.Common.{◌≡◌, ℕ, ◌+◌, Bool, true, false, List, ◌++◌, refl, sym, ap, ◌∙◌, Option, Some, None}
+use Rattle.std.proofs.Common.{◌≡◌, ℕ, Bool, true, false, List, ◌++◌, refl, sym, ap, ◌∙◌, Option, Some, None}
 use Rattle.std.specs.Prelude.{slice_get, if◌then◌else◌}
 use Rattle.noc_model.specs.declared.Host.{Host}
 use Rattle.noc_model.specs.declared.Ejected.{Ejected}
@@ -10,7 +10,7 @@ use Rattle.noc_model.specs.Run.{State}
 use Rattle.noc_model.specs.Driver.{Driver, offer_at, hears_at, driven}
 use Rattle.noc_model.specs.Events.{ejected_of, offer_events, drop_events, got_events, tile_events}
 use Rattle.noc_model.proofs.HostTiles.{number-is}
-use Rattle.cycle_sim.specs.Net.{seen_of}
+use Rattle.cycle_sim.specs.Attached.{seen_of}
 use Rattle.tile_drive.specs.SeenEvents.{seen_events}
 
 -- what is given out and heard

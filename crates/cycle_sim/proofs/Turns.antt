@@ -14,7 +14,8 @@ use Rattle.noc_model.proofs.Driven.{state-last, states-last, events-last}
 use Rattle.noc_model.proofs.OwnAttachments.{DoAlike, step-same, driven-same}
 use Rattle.tile_drive.specs.declared.cycle_seen.SeenAt.{SeenAt}
 use Rattle.tile_drive.specs.Seen.{seen_at}
-use Rattle.cycle_sim.specs.Net.{Kept, Shows, seen_of}
+use Rattle.cycle_sim.specs.Attached.{seen_of}
+use Rattle.cycle_sim.specs.Net.{Kept, Shows}
 use Rattle.tile_drive.specs.SeenEvents.{seen_events, events_seen}
 use Rattle.tile_drive.proofs.SeenEvents.{own-events}
 use Rattle.cycle_sim.proofs.SeenTile.{seen-tile}

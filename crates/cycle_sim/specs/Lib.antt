@@ -1,2 +1,4 @@
-pub mod OneTile
 pub mod Net
+pub mod Links
+pub mod TileCycle
+pub mod Attached

@@ -35,7 +35,8 @@ pub fn run<D: Drive>(
         → filter (λ (e : Event). e.domain == d) events
         ≡ driven_events net.old.plan d (D.driver drive.old) cycles 0 (start net.old.plan) (D.state drive.old)) }
     ensures states { (d : ℕ) → d < length net.old.plan.domains
-        → Shows net.new d (driven_state net.old.plan d (D.driver drive.old) net.new.cycle 0 (start net.old.plan) (D.state drive.old)) }
+        → Shows net.new d (driven_state net.old.plan d (D.driver drive.old) net.new.cycle 0 (start net.old.plan)
+        (D.state drive.old)) }
     ensures count { D.count drive.new ≡ D.count drive.old }
     ensures driver { D.driver drive.new ≡ D.driver drive.old }
     ensures attached { (j : ℕ) (h : Host) → slice_get net.old.plan.hosts j ≡ Some h → D.state drive.new j

@@ -1,27 +1,44 @@
-//! The network: its tile, and what it keeps for each domain.
+//! The network: its tiles, its links, and its cycle.
 
-ghost use Rattle.std.specs.Prelude.{◌≡◌, ◌<◌, ◌≤◌, ◌+◌, ℕ, List, length, slice_get, Some, IfOk, pos};
+ghost use Rattle.std.specs.Prelude.{◌≡◌, ◌<◌, ◌+◌, ℕ, length, slice_get, Some, IsSome, IfOk, pos};
 ghost use Rattle.noc_model.specs.Limits.{most_cycles};
 ghost use Rattle.noc_model.specs.declared.Host.{Host};
+ghost use Rattle.noc_model.specs.Plan.{tiles};
+ghost use Rattle.noc_model.specs.Place.{neighbour};
+ghost use Rattle.noc_model.specs.Shared.{own_places};
 ghost use Rattle.noc_model.specs.Run.{State, start, step};
 ghost use Rattle.noc_model.specs.Driver.{driven, next_state};
+ghost use Rattle.credit_links.specs.Rows.{place_at};
 ghost use Rattle.tile_drive.specs.Seen.{seen_at};
-ghost use Rattle.cycle_sim.specs.Net.{IsBuilt, Shows, one_at, seen_of};
-ghost use Rattle.cycle_sim.specs.OneTile.{start_one};
+ghost use Rattle.cycle_sim.specs.Attached.{seen_of};
+ghost use Rattle.cycle_sim.specs.Links.{row_of};
+ghost use Rattle.cycle_sim.specs.Net.{Shows};
 
-use crate::domains::step_domains;
-use crate::tile::OneTile;
+use crate::begin::{outs_of, pulses_of, routers_of, rows_of};
+use crate::pulses::keep_all;
+use crate::seeing::see_all;
+use crate::shift::shift_all;
+use crate::tiles::step_tiles;
+use credit_links::Pipe;
 use noc_model::Plan;
+use router_core::{Router, RouterOut};
 use std::alloc::{AllocError, Global};
 use std::marker::Model;
 use tile_drive::{Drive, Seen};
+use vc_partition::Lanes;
 
-/// The simulated network, so far of one tile and of domains with one channel.
+/// The simulated network.
 #[derive(Drop)]
 pub struct Net {
     plan: Plan,
     cycle: u32,
-    ones: Vec<OneTile>,
+    routers: Vec<Router>,
+    /// The registers of each link, by tile, then by the port that it leaves by.
+    rows: Vec<Pipe>,
+    /// In a cycle, the credit pulses of the last one.
+    pulses: Vec<Lanes<Option<u32>>>,
+    /// In a cycle, what each tile sends.
+    outs: Vec<RouterOut>,
 }
 
 impl Model for Net {
@@ -29,55 +46,38 @@ impl Model for Net {
 
     ghost Value = { Kept };
 
-    ghost use Rattle.std.specs.Prelude.{◌≡◌, ◌≤◌, ℕ, length};
-    ghost use Rattle.noc_model.specs.Limits.{most_cycles};
-    ghost use Rattle.cycle_sim.specs.Net.{IsBuilt, one_at};
-    ghost use Rattle.cycle_sim.specs.OneTile.{start_one};
+    ghost use Rattle.cycle_sim.specs.Net.{kept, IsWhole, HasScratch};
 
-    ghost view = { λ a. record { plan = a.plan; cycle = a.cycle; ones = a.ones.items } };
+    ghost view = { λ a. kept a.plan a.cycle a.routers.items a.rows.items };
 
-    // In cycle 0 each domain is in the start.
-    ghost invariant = { λ a. IsBuilt a.plan × (length a.ones.items ≡ length a.plan.domains) × (a.cycle ≤ most_cycles)
-        × (a.cycle ≡ 0 → (d : ℕ) → one_at a.ones.items d ≡ start_one) };
-}
-
-/// The tile's places for each domain.
-fn ones_of(alloc: Global, plan: &Plan) -> Result<Vec<OneTile>, AllocError>
-    ensures count { IfOk result (λ ones. length ones.items ≡ length plan.now.domains) }
-    ensures start { IfOk result (λ ones. (d : ℕ) → one_at ones.items d ≡ start_one) }
-{
-    let mut ones = Vec::new(alloc);
-    for _ in 0..plan.domains() {
-        ones.push(OneTile::new(alloc)?)?;
-    }
-    Ok(ones)
+    ghost invariant = { λ a. IsWhole (kept a.plan a.cycle a.routers.items a.rows.items)
+        × HasScratch a.plan a.pulses.items a.outs.items };
 }
 
 impl Net {
-    /// The network in cycle 0. On an error the plan is dropped.
+    /// The network in cycle 0. All memory is taken here. On an error the plan is dropped.
     ///
     /// # Errors
     ///
     /// When memory runs out.
     pub fn new(alloc: Global, plan: Plan) -> Result<Net, AllocError>
-        requires built { IsBuilt plan }
         ensures plan { IfOk result (λ net. net.plan ≡ plan) }
         ensures cycle { IfOk result (λ net. net.cycle ≡ 0) }
-        ensures starts { IfOk result (λ net. (d : ℕ) → Shows net d (start plan)) }
+        ensures starts { IfOk result (λ net. (d : ℕ) → d < length plan.domains → Shows net d (start plan)) }
     {
-        let ones = ones_of(alloc, &plan)?;
+        plan.known();
+        let routers = routers_of(alloc, &plan)?;
+        let rows = rows_of(alloc, &plan)?;
+        let pulses = pulses_of(alloc, &plan)?;
+        let outs = outs_of(alloc, &plan)?;
         Ok(Net {
             plan,
             cycle: 0,
-            ones,
+            routers,
+            rows,
+            pulses,
+            outs,
         })
-    }
-
-    /// Lets callers' proofs use that a network in cycle 0 is in the start. It does nothing.
-    pub fn known(&self)
-        ensures { self.now.cycle ≡ 0 → (d : ℕ) → Shows self.now d (start self.now.plan) }
-    {
-        let _ = &self.plan;
     }
 
     /// The cycle that comes next.
@@ -94,6 +94,28 @@ impl Net {
         &self.plan
     }
 
+    /// Lets callers' proofs use that a network in cycle 0 is in the start. It does nothing.
+    pub fn known(&self)
+        ensures { self.now.cycle ≡ 0 → (d : ℕ) → d < length self.now.plan.domains
+            → Shows self.now d (start self.now.plan) }
+    {
+        let _ = &self.plan;
+    }
+
+    /// The registers of the link that leaves tile `n` by a port, which has one: place `i` was filled in the cycle
+    /// `cycle() - 1 - i`. All domains share them.
+    pub fn link(&self, n: u32, port: u32) -> &Pipe
+        requires tile { n < tiles self.now.plan }
+        requires link { IsSome (neighbour self.now.plan n port) }
+        ensures row { result.now ≡ row_of self.now.plan self.now.rows n port }
+        ensures places { length result.now ≡ self.now.plan.stages }
+        ensures shared { (d i : ℕ) (s : State) → Shows self.now d s → i < self.now.plan.stages
+            → (s n).row port i ≡ own_places self.now.plan d n port (pos self.now.cycle) (place_at result.now) i }
+    {
+        self.plan.known();
+        &self.rows[(n * self.plan.ports() + port) as usize]
+    }
+
     /// One cycle: each domain's state goes on as if the domain were alone, the driver is notified of what was taken
     /// and got, and what was seen is kept. Takes no memory.
     pub fn step<D: Drive>(&mut self, drive: &mut D, seen: &mut Seen)
@@ -103,7 +125,8 @@ impl Net {
         ensures plan { self.new.plan ≡ self.old.plan }
         ensures cycle { self.new.cycle ≡ self.old.cycle + 1 }
         ensures steps { (d : ℕ) (s : State) → d < length self.old.plan.domains → Shows self.old d s
-            → Shows self.new d (step self.old.plan d (pos self.old.cycle) s (driven self.old.plan d (D.driver drive.old) (D.state drive.old) self.old.cycle)) }
+            → Shows self.new d (step self.old.plan d (pos self.old.cycle) s
+            (driven self.old.plan d (D.driver drive.old) (D.state drive.old) self.old.cycle)) }
         ensures count { D.count drive.new ≡ D.count drive.old }
         ensures driver { D.driver drive.new ≡ D.driver drive.old }
         ensures states { (j : ℕ) (h : Host) (s : State) → slice_get self.old.plan.hosts j ≡ Some h
@@ -117,13 +140,17 @@ impl Net {
             (D.state drive.old j) }
     {
         self.plan.known();
-        step_domains(
-            self.ones.as_mut_slice(),
+        see_all(&self.plan, self.cycle, &mut self.routers, drive, seen);
+        keep_all(&self.plan, &self.routers, &mut self.pulses);
+        step_tiles(
             &self.plan,
             self.cycle,
-            drive,
-            seen,
+            &self.rows,
+            &self.pulses,
+            &mut self.routers,
+            &mut self.outs,
         );
+        shift_all(&self.plan, &self.outs, &mut self.rows);
         self.cycle += 1;
     }
 }

@@ -1,97 +1,132 @@
-//! Worked rows of one tile that hosts one domain, and answers the addresses from 16 to 31.
+//! Worked runs of whole networks, whose events were worked out by hand.
 
-ghost use Rattle.std.specs.Prelude.{◌≡◌, ◌≤◌, IfOk};
-ghost use Rattle.noc_model.specs.PlanOf.{plan_of};
-ghost use Rattle.noc_model.specs.Sound.{IsSound};
-ghost use Rattle.cycle_sim.specs.Net.{IsBuilt};
+ghost use Rattle.std.specs.Prelude.{◌≤◌};
 
 use crate::{Net, run};
-use noc_model::{DomainPart, Host, Kind, Parts, Plan, Range};
+use flit_word::LinkFlit;
+use noc_model::{Event, Kind, Plan};
 use std::alloc::{AllocError, Global};
 use std::test::Fail;
-use surf_base::Bytes;
-use tile_drive::{Events, TraceDrive};
+use tile_drive::{Seen, TraceDrive};
 use trace_read::read_trace;
+use worked_plans::{
+    five_in_a_row, one_tile, ring_of_four, ring_of_three, three_in_a_row, two_tiles,
+};
 
-fn one_tile(alloc: Global, buffer: u32) -> Result<Parts, AllocError>
-    requires less { 1 ≤ buffer }
-    requires more { buffer ≤ 16 }
-    ensures sound { IfOk result (λ a. IsSound (plan_of a)) }
-    ensures built { IfOk result (λ a. IsBuilt (plan_of a)) }
-{
-    let a = DomainPart {
-        name: Bytes::from_slice(alloc, b"a")?,
-        channels: 1,
+/// Adds the line of an event: its cycle, tile, domain and kind.
+fn add_line(alloc: Global, text: &mut String, event: &Event) -> Result<(), AllocError> {
+    let cycle = event.cycle;
+    let tile = event.tile;
+    let domain = event.domain;
+    let line = match event.kind {
+        Kind::Take { payload } => format!(in alloc; "{cycle} {tile} {domain} take {payload:x}\n")?,
+        Kind::Wait { payload } => format!(in alloc; "{cycle} {tile} {domain} wait {payload:x}\n")?,
+        Kind::Drop => format!(in alloc; "{cycle} {tile} {domain} drop\n")?,
+        Kind::Got { flit } => {
+            let head = u8::from(flit.head);
+            let tail = u8::from(flit.tail);
+            let payload = flit.payload;
+            format!(in alloc; "{cycle} {tile} {domain} got {head}{tail} {payload:x}\n")?
+        }
     };
-    Ok(Parts {
-        torus: false,
-        dims: vec![in alloc; 1]?,
-        stages: 1,
-        buffer,
-        domains: vec![in alloc; a]?,
-        hosts: vec![in alloc; Host { tile: 0, domain: 0 }]?,
-        ranges: vec![in alloc;
-            Range {
-                tile: 0,
-                first: 0x10,
-                last: 0x1f
-            },
-        ]?,
-        slots: vec![in alloc; 0]?,
-    })
+    text.push_str(line.as_str())
 }
 
-/// The events, as the lines of a report.
-fn printed(alloc: Global, events: &Events) -> Result<String, AllocError> {
+/// The lines of a run's events, of all domains.
+fn printed(alloc: Global, plan: Plan, trace: &str, cycles: u32) -> Result<String, Fail>
+    requires { cycles ≤ 100 }
+{
+    let Ok(trace) = read_trace(alloc, &plan, trace.as_bytes()) else {
+        return Ok(String::from_str(alloc, "no trace")?);
+    };
+    let mut drive = TraceDrive::new(alloc, &plan, &trace)?;
+    let mut net = Net::new(alloc, plan)?;
+    let events = run(alloc, &mut net, &mut drive, cycles)?;
     let mut text = String::new(alloc);
     for event in events.as_slice() {
-        let t = event.cycle;
-        let line = match event.kind {
-            Kind::Take { payload } => format!(in alloc; "{t} take {payload}\n")?,
-            Kind::Wait { payload } => format!(in alloc; "{t} wait {payload}\n")?,
-            Kind::Drop => format!(in alloc; "{t} drop\n")?,
-            Kind::Got { flit } => {
-                let payload = flit.payload;
-                let head = if flit.head { " head" } else { "" };
-                let tail = if flit.tail { " tail" } else { "" };
-                format!(in alloc; "{t} got {payload}{head}{tail}\n")?
-            }
-        };
-        text.push_str(line.as_str())?;
+        add_line(alloc, &mut text, event)?;
     }
     Ok(text)
 }
 
 #[test]
-fn words_are_taken_and_got(rt: HostRuntime) {
+fn words_are_taken_and_got(rt: HostRuntime) -> Result<(), Fail> {
     let alloc = rt.alloc();
-    let rows = [
+    for (trace, cycles, events) in [
         // A word stays four cycles.
-        (
-            2,
-            6,
-            b"0 0 a send 10 2a\n".as_slice(),
-            "0 take 42\n4 got 42 head tail\n",
-        ),
+        ("0 0 a send 10 2a\n", 6, "0 0 0 take 2a\n4 0 0 got 11 2a\n"),
         // A word that no tile has the address of is taken and dropped.
-        (2, 3, b"0 0 a send 20 5\n".as_slice(), "0 take 5\n1 drop\n"),
-        // Words wait for a full list, and a flit for a deaf attachment.
-        (
-            1,
-            16,
-            b"0 0 a hold 10\n0 0 a send 10 1\n0 0 a send 10 2\n0 0 a send 10 3\n".as_slice(),
-            "0 take 1\n1 wait 2\n2 wait 2\n3 wait 2\n4 take 2\n5 wait 3\n6 wait 3\n7 wait 3\n\
-             8 wait 3\n9 wait 3\n10 wait 3\n10 got 1 head tail\n11 take 3\n11 got 2 head tail\n15 got 3 head tail\n",
-        ),
-    ];
-    for (buffer, cycles, text, want) in rows {
-        let plan = Plan::new(one_tile(alloc, buffer).expect(&rt, "memory"));
-        assert_eq!(&rt; plan.attach_count(), 1);
-        let trace = read_trace(alloc, &plan, text).expect(&rt, "memory");
-        let mut drive = TraceDrive::new(alloc, &plan, &trace).expect(&rt, "memory");
-        let mut net = Net::new(alloc, plan).expect(&rt, "memory");
-        let events = run(alloc, &mut net, &mut drive, cycles).expect(&rt, "memory");
-        let text = printed(alloc, &events).expect(&rt, "memory");
-        assert_eq!(&rt; text.as_str(), want);
+        ("0 0 a send 20 5\n", 3, "0 0 0 take 5\n1 0 0 drop\n"),
+    ] {
+        let text = printed(alloc, one_tile(alloc)?, trace, cycles)?;
+        assert_eq!(&rt; text.as_str(), events);
     }
+    Ok(())
+}
+
+#[test]
+fn two_domains_share_a_link(rt: HostRuntime) -> Result<(), Fail> {
+    let alloc = rt.alloc();
+    let trace = "0 0 a send 100 a\n0 0 b send 100 b\n";
+    let text = printed(alloc, two_tiles(alloc)?, trace, 12)?;
+    assert_eq!(&rt;
+        text.as_str(),
+        "0 0 0 take a\n0 0 1 take b\n8 1 1 got 11 b\n9 1 0 got 11 a\n"
+    );
+    Ok(())
+}
+
+/// The payload of the flit in the last register of the link from tile 0 to tile 1 of two tiles, after these cycles.
+fn on_the_link(alloc: Global, cycles: u32) -> Result<Option<LinkFlit>, Fail>
+    requires { cycles ≤ 100 }
+{
+    let plan = two_tiles(alloc)?;
+    let Ok(trace) = read_trace(alloc, &plan, b"0 0 a send 100 a\n0 0 b send 100 b\n") else {
+        return Ok(None);
+    };
+    let mut drive = TraceDrive::new(alloc, &plan, &trace)?;
+    let mut net = Net::new(alloc, plan)?;
+    let _events = run(alloc, &mut net, &mut drive, cycles)?;
+    let plan = net.plan();
+    if plan.tiles() > 0 && plan.ports() > 1 && plan.neighbour(0, 1).is_some() {
+        return Ok(net.link(0, 1).last());
+    }
+    Ok(None)
+}
+
+#[test]
+fn both_domains_are_on_one_row(rt: HostRuntime) -> Result<(), Fail> {
+    let alloc = rt.alloc();
+    for (cycles, payload) in [(4, 0xb), (5, 0xa)] {
+        let Some(x) = on_the_link(alloc, cycles)? else {
+            assert_eq!(&rt; cycles, 0);
+            continue;
+        };
+        assert_eq!(&rt; x.channel, 0);
+        assert_eq!(&rt; x.flit.payload, payload);
+    }
+    Ok(())
+}
+
+#[test]
+fn packets_go_round_and_meet(rt: HostRuntime) -> Result<(), Fail> {
+    let alloc = rt.alloc();
+    let text = printed(alloc, ring_of_three(alloc)?, "0 2 a send 0 9\n", 10)?;
+    assert_eq!(&rt; text.as_str(), "0 2 0 take 9\n8 0 0 got 11 9\n");
+    let text = printed(alloc, ring_of_four(alloc)?, "0 0 a send 200 7\n", 14)?;
+    assert_eq!(&rt; text.as_str(), "0 0 0 take 7\n12 2 0 got 11 7\n");
+    let trace = "0 0 a send 100 a1 a2\n0 2 a send 100 b1 b2\n";
+    let text = printed(alloc, three_in_a_row(alloc)?, trace, 14)?;
+    assert_eq!(&rt;
+        text.as_str(),
+        "0 0 0 take a1\n0 2 0 take b1\n1 0 0 take a2\n1 2 0 take b2\n8 1 0 got 10 b1\n9 1 0 got 01 b2\n\
+         11 1 0 got 10 a1\n12 1 0 got 01 a2\n"
+    );
+    let trace = "0 0 a send 400 1\n0 4 b send 0 2\n0 0 c send 400 3\n";
+    let text = printed(alloc, five_in_a_row(alloc)?, trace, 36)?;
+    assert_eq!(&rt;
+        text.as_str(),
+        "0 0 0 take 1\n0 0 2 take 3\n0 4 1 take 2\n32 0 1 got 11 2\n32 4 0 got 11 1\n34 4 2 got 11 3\n"
+    );
+    Ok(())
 }

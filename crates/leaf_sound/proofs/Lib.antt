@@ -1,15 +1,15 @@
-mod Bits
-mod Keyed
-mod Rising
+pub mod Bits
+pub mod Keyed
+pub mod Rising
 mod Ranked
 mod Nets
 mod Moved
 mod Headed
-mod Inner
+pub mod Inner
 mod Evened
 mod Ported
-mod Outs
-mod Named
+pub mod Outs
+pub mod Named
 mod Typed
 mod Walk
 mod Plainly

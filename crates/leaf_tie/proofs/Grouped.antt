@@ -10,7 +10,9 @@ use Rattle.gen_kit.specs.Groups.{Group, all_items, HoldsIn}
 use Rattle.noc_model.specs.Plan.{Plan, channels, link_channels, ports, tiles, hosts}
 use Rattle.noc_model.specs.Place.{neighbour, opposite, way_of}
 use Rattle.noc_model.specs.Sound.{IsSound}
-use Rattle.noc_model.specs.Tile.{TileIn}
+use Rattle.noc_model.specs.declared.LinkFlit.{LinkFlit}
+use Rattle.noc_model.specs.Tile.{Tile, TileIn, start_tile}
+use Rattle.noc_model.specs.Step.{tile_step}
 use Rattle.vl_tree.specs.Values.{Name, Leaf, Design, net, bit}
 use Rattle.vl_model.specs.Rules.{IsSound as IsSoundDesign}
 use Rattle.vl_model.specs.Lines.{leaf_named}
@@ -23,12 +25,12 @@ use Rattle.leaf_tie.specs.Slots.{leaving_slot, arriving_slot, slot_group}
 use Rattle.leaf_tie.specs.Links.{link_group}
 use Rattle.leaf_tie.specs.Attach.{attach_group, enter_at}
 use Rattle.leaf_tie.specs.Tie.{LeafNames, PortNames, HasLink, HasPort, HasPlace, alloc_size, LeafIn, LeafTie}
-use Rattle.leaf_tie.specs.Glue.{NetNames, switch_names, switch_size, link_names, attach_names, attach_size, high, has_port, filled_group, tails_group, led_group, ends_group, ready_group, unready_group, on_group, freed_group, flit_group, word_group, eject_group, arrival_group, pulse_group, link_push, pop_of, Moves, DomainRuns, LeafRuns, DomainStarts, LeafStarts, GlueFits, state_at, rows_at}
+use Rattle.leaf_tie.specs.Glue.{NetNames, switch_names, switch_size, link_names, attach_names, attach_size, high, has_port, filled_group, tails_group, led_group, ends_group, ready_group, unready_group, on_group, freed_group, flit_group, word_group, eject_group, arrival_group, pulse_group, link_push, pop_of, Moves, DomainRuns, LeafRuns, DomainStarts, LeafStarts, GlueFits, state_at, rows_at, next_shared}
 use Rattle.leaf_tie.specs.Whole.{each_group, to_neighbour, link_uses, uses_slot, slot_groups, shared_groups, before_switch, behind_switch, channel_groups, sent_groups, link_buffers, local_groups, domain_groups, leaf_groups, Joined}
 use Rattle.leaf_tie.proofs.Members.{Member, in-front, in-back, in-each, in-then, in-else, in-neighbour, any-member, its-heads, its-moves, holds-in, moves-in}
 use Rattle.leaf_tie.proofs.Glued.{link-there, port-has}
-use Rattle.leaf_tie.proofs.Started.{slot-below}
-use Rattle.leaf_tie.proofs.Whole.{leaf-run-reset}
+use Rattle.leaf_tie.proofs.Started.{slot-below, leaf-starts}
+use Rattle.leaf_tie.proofs.Whole.{leaf-kept, leaf-run-reset}
 
 port-below : (p : Plan) (n d o : ℕ) → HasPort p n d o → o < ports p
 port-below p n d zero h = omega arith
@@ -263,3 +265,28 @@ text-run p n names nets q base size slot_high dest_bits link_flit link_channel o
       steps = λ t. subst (AllStep (leaf_widths l) (v t) (v (suc t))) is (run.edges t);
     })
     input
+
+-- such a leaf begins tied to its tile
+pub text-starts : (p : Plan) (n : ℕ) (names : LeafNames) (nets : NetNames) (q : PortNames) (base : ℕ → ℕ) (size : BufferSize) (slot_high dest_bits link_flit link_channel : ℕ) (others : List Group)
+    (l : Leaf) (v : ℕ → Values) → IsSound p → l.items ≡ all_items (leaf_groups p n names nets q base size slot_high dest_bits link_flit link_channel ++ others) → IsLeafRun l v
+    → LeafTie p n names size dest_bits link_flit link_channel (v 0) 0 (λ d. start_tile p) (λ o j. None)
+unfolding gs
+text-starts p n names nets q base size slot_high dest_bits link_flit link_channel others l v sound is run =
+    leaf-starts p n names nets q base size slot_high dest_bits link_flit link_channel (v 0) (λ t d. record { arrives = λ port. None; returns = λ o x. false; offer = None; hears = false }) sound
+    (leaf-resets p n names nets q base size slot_high dest_bits link_flit link_channel others (v 0) sound.slot_count.0 (subst (AllReset (v 0)) is run.starts))
+
+-- and each edge of a run keeps the tie, so all leaves of a design can be followed at once
+pub text-kept : (p : Plan) (n : ℕ) (names : LeafNames) (nets : NetNames) (q : PortNames) (base : ℕ → ℕ) (size : BufferSize) (slot_high dest_bits link_flit link_channel : ℕ) (others : List Group)
+    (design : Design) (name : Name) (l : Leaf) (v : ℕ → Values) (t : ℕ) (s : ℕ → Tile) (i : ℕ → TileIn) (shared : ℕ → ℕ → Option LinkFlit) → IsSound p → n < tiles p → GlueFits p size slot_high dest_bits link_flit link_channel
+    → IsSoundDesign design → leaf_named design.leaves name ≡ Some l → l.items ≡ all_items (leaf_groups p n names nets q base size slot_high dest_bits link_flit link_channel ++ others)
+    → Joined p n names nets q (leaf_widths l) → IsLeafRun l v → LeafIn p n q base dest_bits link_flit link_channel (v t) t s i
+    → LeafTie p n names size dest_bits link_flit link_channel (v t) t s shared
+    → LeafTie p n names size dest_bits link_flit link_channel (v (suc t)) (suc t) (λ d. tile_step p d n (pos t) (s d) (i d)) (next_shared p n t s i shared)
+unfolding gs
+text-kept p n names nets q base size slot_high dest_bits link_flit link_channel others design name l v t s i shared sound inside fits right named is joined run input tie =
+    leaf-kept p n names nets q base size slot_high dest_bits link_flit link_channel (leaf_widths l) (v t) (v (suc t)) t s i shared sound inside fits
+    (leaf-runs p n names nets q base size slot_high dest_bits link_flit link_channel others (leaf_widths l) (v t) (v (suc t)) sound.slot_count.0 joined (holds t) (holds (suc t)) (subst (AllStep (leaf_widths l) (v t) (v (suc t))) is (run.edges t)))
+    input tie
+  where
+    holds : (k : ℕ) → AllHold (leaf_widths l) (v k) (all_items (leaf_groups p n names nets q base size slot_high dest_bits link_flit link_channel ++ others))
+    holds k = subst (AllHold (leaf_widths l) (v k)) is (parts-hold design right name l named (v k) (run.right k))

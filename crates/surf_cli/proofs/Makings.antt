@@ -14,7 +14,7 @@ use Rattle.desc_check.specs.Accepted.{first_fault}
 use Rattle.desc_check.specs.Upgrade.{upgrade_of}
 use Rattle.surf_cli.specs.Jobs.{Simulate, Upgrade}
 use Rattle.surf_cli.specs.Simulate.{reports_text}
-use Rattle.surf_cli.specs.Meaning.{Outcome, Does, Exactly, UpgradeOf, Judged, Described, judged_plan, judged_draft, judged, with_plan, with_built, with_trace, over}
+use Rattle.surf_cli.specs.Meaning.{Outcome, Does, Exactly, UpgradeOf, Judged, Described, judged_plan, judged_draft, judged, with_plan, with_trace, over}
 use Rattle.surf_cli.specs.Answers.{Makes, IsRefused}
 
 -- the bytes are exactly those that are to be written
@@ -25,28 +25,28 @@ Makes-exactly m right bytes e is = record { work = Exactly right; meant = e; rig
 
 -- what a simulation goes on to over a plan
 abbrev simulated : Contents → ℕ → Plan → Outcome
-simulated held cycles p = with_built p (with_trace p held.trace (λ es. Does (Exactly (reports_text p es cycles))))
+simulated held cycles p = with_trace p held.trace (λ es. Does (Exactly (reports_text p es cycles)))
 
 simulated-is : (held : Contents) (cycles : ℕ) (description : List ℕ) (p : Plan) → description ≡ held.description → ((next : Plan → Outcome) → with_plan description next ≡ next p)
-    → ((next : Outcome) → with_built p next ≡ next) → over (Simulate cycles) held ≡ with_trace p held.trace (λ es. Does (Exactly (reports_text p es cycles)))
-simulated-is held cycles description p e plan built =
-    ap (λ bytes. with_plan bytes (simulated held cycles)) (sym e) ∙ plan (simulated held cycles) ∙ built (with_trace p held.trace (λ es. Does (Exactly (reports_text p es cycles))))
+    → over (Simulate cycles) held ≡ with_trace p held.trace (λ es. Does (Exactly (reports_text p es cycles)))
+simulated-is held cycles description p e plan =
+    ap (λ bytes. with_plan bytes (simulated held cycles)) (sym e) ∙ plan (simulated held cycles)
 
 -- whose trace is refused
 pub trace-stops : (held : Contents) (cycles : ℕ) (description trace : List ℕ) (p : Plan) (end : End) → description ≡ held.description → trace ≡ held.trace
-    → ((next : Plan → Outcome) → with_plan description next ≡ next p) → ((next : Outcome) → with_built p next ≡ next)
+    → ((next : Plan → Outcome) → with_plan description next ≡ next p)
     → ((next : List Entry → Outcome) → IsRefused (with_trace p trace next) end) → IsRefused (over (Simulate cycles) held) end
-trace-stops held cycles description trace p end e f plan built refused =
-    subst (λ o. IsRefused o end) (sym (simulated-is held cycles description p e plan built))
+trace-stops held cycles description trace p end e f plan refused =
+    subst (λ o. IsRefused o end) (sym (simulated-is held cycles description p e plan))
     (subst (λ bytes. IsRefused (with_trace p bytes (λ es. Does (Exactly (reports_text p es cycles)))) end) f (refused (λ es. Does (Exactly (reports_text p es cycles)))))
 
 -- whose reports are made
 pub reports-made : (held : Contents) (cycles : ℕ) (description trace bytes : List ℕ) (p : Plan) (es : List Entry) → description ≡ held.description → trace ≡ held.trace
-    → ((next : Plan → Outcome) → with_plan description next ≡ next p) → ((next : Outcome) → with_built p next ≡ next)
+    → ((next : Plan → Outcome) → with_plan description next ≡ next p)
     → ((next : List Entry → Outcome) → with_trace p trace next ≡ next es) → bytes ≡ reports_text p es cycles → Makes (over (Simulate cycles) held) bytes
-reports-made held cycles description trace bytes p es e f plan built entries is =
+reports-made held cycles description trace bytes p es e f plan entries is =
     Makes-exactly _ (reports_text p es cycles) bytes
-    (simulated-is held cycles description p e plan built
+    (simulated-is held cycles description p e plan
     ∙ ap (λ t. with_trace p t (λ xs. Does (Exactly (reports_text p xs cycles)))) (sym f)
     ∙ entries (λ xs. Does (Exactly (reports_text p xs cycles)))) is
 

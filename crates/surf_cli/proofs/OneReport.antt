@@ -9,7 +9,7 @@ use Rattle.surf_cli.specs.declared.refusals.Refusal.TheVariants.{NoDomain}
 use Rattle.surf_cli.specs.Contents.{Contents}
 use Rattle.surf_cli.specs.Jobs.{Report}
 use Rattle.surf_cli.specs.Simulate.{report_text}
-use Rattle.surf_cli.specs.Meaning.{Outcome, Does, Exactly, if_found, with_plan, with_domain, with_built, with_trace, over}
+use Rattle.surf_cli.specs.Meaning.{Outcome, Does, Exactly, if_found, with_plan, with_domain, with_trace, over}
 use Rattle.surf_cli.specs.Answers.{Makes, IsRefused}
 use Rattle.surf_cli.proofs.Makings.{Makes-exactly}
 
@@ -25,7 +25,7 @@ domain-absent p name next e = inr record { refusal = NoDomain; of_contents = tt;
 
 -- what a report goes on to over a plan and a domain
 abbrev of_domain : Contents → ℕ → Plan → ℕ → Outcome
-of_domain held cycles p d = with_built p (with_trace p held.trace (λ es. Does (Exactly (report_text p es cycles d))))
+of_domain held cycles p d = with_trace p held.trace (λ es. Does (Exactly (report_text p es cycles d)))
 
 abbrev reported : Contents → ℕ → List ℕ → Plan → Outcome
 reported held cycles name p = with_domain p name (of_domain held cycles p)
@@ -51,25 +51,25 @@ found-is held cycles name description p d f =
     ∙ ap (λ n. with_domain p n (of_domain held cycles p)) (sym f.name_is) ∙ f.domain (of_domain held cycles p)
 
 traced-is : (held : Contents) (cycles : ℕ) (name description trace : List ℕ) (p : Plan) (d : ℕ)
-    → IsFound held cycles name description p d → trace ≡ held.trace → ((next : Outcome) → with_built p next ≡ next)
+    → IsFound held cycles name description p d → trace ≡ held.trace
     → over (Report cycles name) held ≡ with_trace p trace (λ es. Does (Exactly (report_text p es cycles d)))
-traced-is held cycles name description trace p d f t built =
-    found-is held cycles name description p d f ∙ built (with_trace p held.trace (λ es. Does (Exactly (report_text p es cycles d))))
+traced-is held cycles name description trace p d f t =
+    found-is held cycles name description p d f
     ∙ ap (λ bytes. with_trace p bytes (λ es. Does (Exactly (report_text p es cycles d)))) (sym t)
 
 -- whose trace is refused
 pub trace-stops : (held : Contents) (cycles : ℕ) (name description trace : List ℕ) (p : Plan) (d : ℕ) (end : End)
-    → IsFound held cycles name description p d → trace ≡ held.trace → ((next : Outcome) → with_built p next ≡ next)
+    → IsFound held cycles name description p d → trace ≡ held.trace
     → ((next : List Entry → Outcome) → IsRefused (with_trace p trace next) end) → IsRefused (over (Report cycles name) held) end
-trace-stops held cycles name description trace p d end f t built refused =
-    subst (λ o. IsRefused o end) (sym (traced-is held cycles name description trace p d f t built))
+trace-stops held cycles name description trace p d end f t refused =
+    subst (λ o. IsRefused o end) (sym (traced-is held cycles name description trace p d f t))
     (refused (λ es. Does (Exactly (report_text p es cycles d))))
 
 -- whose report is made
 pub report-made : (held : Contents) (cycles : ℕ) (name description trace bytes : List ℕ) (p : Plan) (d : ℕ) (es : List Entry)
-    → IsFound held cycles name description p d → trace ≡ held.trace → ((next : Outcome) → with_built p next ≡ next)
+    → IsFound held cycles name description p d → trace ≡ held.trace
     → ((next : List Entry → Outcome) → with_trace p trace next ≡ next es) → bytes ≡ report_text p es cycles d
     → Makes (over (Report cycles name) held) bytes
-report-made held cycles name description trace bytes p d es f t built entries is =
+report-made held cycles name description trace bytes p d es f t entries is =
     Makes-exactly _ (report_text p es cycles d) bytes
-    (traced-is held cycles name description trace p d f t built ∙ entries (λ xs. Does (Exactly (report_text p xs cycles d)))) is
+    (traced-is held cycles name description trace p d f t ∙ entries (λ xs. Does (Exactly (report_text p xs cycles d)))) is

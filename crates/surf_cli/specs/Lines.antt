@@ -11,7 +11,7 @@ use Rattle.surf_cli.specs.declared.statuses.Status.TheVariants as status
 use Rattle.surf_cli.specs.declared.statuses.End.{End}
 use Rattle.surf_cli.specs.declared.statuses.End.TheVariants.{Good, Usage, Refused, Read, Write, Memory, TooLong}
 use Rattle.surf_cli.specs.declared.refusals.Refusal.{Refusal}
-use Rattle.surf_cli.specs.declared.refusals.Refusal.TheVariants.{Description, NoDomain, NotBuilt, Text, Trace}
+use Rattle.surf_cli.specs.declared.refusals.Refusal.TheVariants.{Description, NoDomain, Text, Trace}
 
 -- the number that the process ends with
 abbrev pub number_of : Status → ℕ
@@ -30,7 +30,6 @@ number_of status.Domain = 10
 abbrev pub status_of_refusal : Refusal → Status
 status_of_refusal (Description fault) = status.Description
 status_of_refusal NoDomain = status.Domain
-status_of_refusal NotBuilt = status.Description
 status_of_refusal (Text fault) = status.Text
 status_of_refusal (Trace fault) = status.Trace
 
@@ -38,7 +37,6 @@ status_of_refusal (Trace fault) = status.Trace
 abbrev pub line_of_refusal : Refusal → List ℕ
 line_of_refusal (Description fault) = description.line_of fault
 line_of_refusal NoDomain = codes "surf: no such domain\n"
-line_of_refusal NotBuilt = codes "surf: description not built\n"
 line_of_refusal (Text fault) = text.line_of fault
 line_of_refusal (Trace fault) = trace.line_of fault
 
@@ -46,7 +44,6 @@ line_of_refusal (Trace fault) = trace.line_of fault
 abbrev pub IsOfContents : Refusal → Type 0
 IsOfContents (Description fault) = IsMemory fault → ⊥
 IsOfContents NoDomain = Unit {0}
-IsOfContents NotBuilt = Unit {0}
 IsOfContents (Text fault) = text_fault.IsMemory fault → ⊥
 IsOfContents (Trace fault) = trace.place_of fault ≢ None
 

@@ -21,14 +21,15 @@ use Rattle.surf_cli.specs.declared.files.FileKind.{FileKind}
 use Rattle.surf_cli.specs.declared.statuses.End.{End}
 use Rattle.surf_cli.specs.declared.statuses.End.TheVariants.{Good, Usage, Refused, Read, TooLong}
 use Rattle.surf_cli.specs.declared.refusals.Refusal.{Refusal}
-use Rattle.surf_cli.specs.declared.refusals.Refusal.TheVariants.{Description, NoDomain, NotBuilt, Text, Trace}
+use Rattle.surf_cli.specs.declared.refusals.Refusal.TheVariants.{Description, NoDomain, Text, Trace}
 use Rattle.surf_cli.specs.Files.{NamedFile, limit_of}
 use Rattle.surf_cli.specs.Contents.{Contents, nothing, with_content}
-use Rattle.surf_cli.specs.Jobs.{Job, Schedule, Check, Routes, Simulate, Report, Upgrade, Replay, Command}
+use Rattle.surf_cli.specs.Jobs.{Job, Schedule, Check, Routes, Simulate, Report, Upgrade, Replay, Stress, Command}
 use Rattle.surf_cli.specs.Schedule.{schedule_text}
 use Rattle.surf_cli.specs.Accepted.{accepted_text}
 use Rattle.surf_cli.specs.Routes.{routes_text}
-use Rattle.surf_cli.specs.Simulate.{is_built, reports_text, report_text}
+use Rattle.surf_cli.specs.Simulate.{reports_text, report_text}
+use Rattle.surf_cli.specs.Stress.{stress_text}
 use Rattle.surf_cli.specs.TextRead.{judged_text}
 use Rattle.surf_cli.specs.Replay.{replayed_text}
 
@@ -95,10 +96,6 @@ if_found (Some d) next = next d
 abbrev pub with_domain : Plan → List ℕ → (ℕ → Outcome) → Outcome
 with_domain p name next = if_found (domain_named p name) next
 
--- what a simulation goes on to: not all networks are built yet
-abbrev pub with_built : Plan → Outcome → Outcome
-with_built p next = if is_built p then next else refuses NotBuilt
-
 -- what comes next, unless there is a fault
 abbrev pub unless_faulty : Option TraceFault → Outcome → Outcome
 unless_faulty None next = next
@@ -123,12 +120,13 @@ over (Schedule cycles) held = with_plan held.description (λ p. Does (Exactly (s
 over Check held = with_plan held.description (λ p. Does (Exactly (accepted_text p)))
 over Routes held = with_plan held.description (λ p. Does (Exactly (routes_text p)))
 over (Simulate cycles) held =
-    with_plan held.description (λ p. with_built p (with_trace p held.trace (λ es. Does (Exactly (reports_text p es cycles)))))
+    with_plan held.description (λ p. with_trace p held.trace (λ es. Does (Exactly (reports_text p es cycles))))
 over (Report cycles name) held =
-    with_plan held.description (λ p. with_domain p name (λ d. with_built p (with_trace p held.trace (λ es. Does (Exactly (report_text p es cycles d))))))
+    with_plan held.description (λ p. with_domain p name (λ d. with_trace p held.trace (λ es. Does (Exactly (report_text p es cycles d)))))
 over Upgrade held = with_plan held.description (λ p. Does (UpgradeOf p))
 over (Replay cycles) held = with_plan held.description (λ p. with_text p held.text (λ d.
     with_trace p held.trace (λ es. Does (Exactly (replayed_text p d es cycles)))))
+over (Stress number cycles) held = Does (Exactly (stress_text number cycles))
 
 -- what a command goes on to with a file, which is absent or holds some bytes
 abbrev pub with_file : FileKind → Option (List ℕ) → (List ℕ → Outcome) → Outcome

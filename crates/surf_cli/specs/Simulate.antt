@@ -1,9 +1,7 @@
 -- The reports of a simulated run: of each domain as if it were alone.
-use Rattle.std.specs.Prelude.{◌≡◌, ◌<◌, ℕ, Bool, not, ◌&&◌, ◌==◌, List, length, filter}
-use Rattle.std.specs.List.{list_all}
-use Rattle.noc_model.specs.declared.plan.DomainPart.{DomainPart}
+use Rattle.std.specs.Prelude.{◌≡◌, ◌<◌, ℕ, ◌==◌, List, length, filter}
 use Rattle.noc_model.specs.declared.Event.{Event}
-use Rattle.noc_model.specs.Plan.{Plan, tiles}
+use Rattle.noc_model.specs.Plan.{Plan}
 use Rattle.noc_model.specs.Run.{start}
 use Rattle.noc_model.specs.Driver.{driven_events}
 use Rattle.noc_model.specs.Report.{report}
@@ -11,11 +9,6 @@ use Rattle.trace_read.specs.declared.entries.Entry.{Entry}
 use Rattle.trace_read.specs.Restrict.{of_domain}
 use Rattle.tile_drive.specs.TraceDriver.{trace_driver, untaken}
 use Rattle.surf_cli.specs.Texts.{texts_below}
-
--- the plans whose networks are simulated so far: one tile of a mesh with one side, and one channel for each domain
-abbrev pub is_built : Plan → Bool
-is_built p = not p.torus && ((length p.dims == 1)
-    && ((tiles p == 1) && list_all (λ (x : DomainPart). x.channels == 1) p.domains))
 
 -- the events of domain d among these
 abbrev pub events_of : List Event → ℕ → List Event

@@ -13,6 +13,7 @@ mod report;
 mod routes;
 mod schedule;
 mod simulate;
+mod stress;
 mod upgrade;
 
 use crate::answers::{Answer, Text};
@@ -52,6 +53,13 @@ pub(crate) enum Job<'a> {
         /// The number of cycles.
         cycles: u32,
     },
+    /// The summary of so many cycles of a stress run.
+    Stress {
+        /// The number from which the trace is drawn.
+        number: u32,
+        /// The number of cycles.
+        cycles: u32,
+    },
 }
 
 /// What the words ask for.
@@ -80,6 +88,7 @@ pub(crate) fn command_of(words: &[String]) -> Option<Command<'_>>
         "report" => report::words(args),
         "upgrade" => upgrade::words(args),
         "replay" => replay::words(args),
+        "stress" => stress::words(args),
         _ => None,
     }
 }
@@ -98,6 +107,7 @@ fn text_for(alloc: Global, asked: Job<'_>, contents: Contents) -> Result<Text, E
         Job::Report { cycles, domain } => report::make(alloc, contents, cycles, domain),
         Job::Upgrade => upgrade::make(alloc, contents),
         Job::Replay { cycles } => replay::make(alloc, contents, cycles),
+        Job::Stress { number, cycles } => stress::make(alloc, contents, number, cycles),
     }
 }
 

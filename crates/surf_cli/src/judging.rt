@@ -1,13 +1,9 @@
-//! What the files hold, judged: the description, its domain of a name, whether its network is built, and the trace.
+//! What the files hold, judged: the description, its domain of a name, and the trace.
 
-ghost use Rattle.std.specs.Prelude.{◌≡◌, ◌==◌, ◌<◌, ℕ, List, length, IfOk, IfErr, OnOk};
-ghost use Rattle.std.specs.List.{list_all};
-ghost use Rattle.noc_model.specs.declared.plan.DomainPart.{DomainPart};
+ghost use Rattle.std.specs.Prelude.{◌≡◌, ◌<◌, ℕ, List, length, IfOk, IfErr};
 ghost use Rattle.noc_model.specs.Plan.{Plan as PlanValue};
 ghost use Rattle.trace_read.specs.declared.entries.Entry.{Entry};
-ghost use Rattle.cycle_sim.specs.Net.{IsBuilt};
-ghost use Rattle.surf_cli.specs.Simulate.{is_built};
-ghost use Rattle.surf_cli.specs.Meaning.{Outcome, with_plan, with_domain, with_built, with_trace};
+ghost use Rattle.surf_cli.specs.Meaning.{Outcome, with_plan, with_domain, with_trace};
 ghost use Rattle.surf_cli.specs.Answers.{IsRefused, EndsFor};
 
 use crate::refusals::Refusal;
@@ -65,36 +61,5 @@ pub(crate) fn judge_trace(alloc: Global, plan: &Plan, bytes: &[u8]) -> Result<Tr
         Ok(trace) => Ok(trace),
         Err(TraceFault::Memory(_)) => Err(End::Memory),
         Err(fault) => Err(End::Refused(Refusal::Trace(fault))),
-    }
-}
-
-/// Whether each domain has one channel.
-fn has_single_channels(plan: &Plan) -> bool
-    ensures { result ≡ list_all (λ (x : DomainPart). x.channels == 1) plan.now.domains }
-{
-    let mut single = true;
-    for d in 0..plan.domains() {
-        single &= plan.channels(d) == 1;
-    }
-    single
-}
-
-/// Whether the plan's network is simulated so far.
-fn is_built(plan: &Plan) -> bool
-    ensures { result ≡ is_built plan.now }
-{
-    !plan.torus() && plan.dims() == 1 && plan.tiles() == 1 && has_single_channels(plan)
-}
-
-/// Refuses a plan whose network is not simulated yet.
-pub(crate) fn needs_built(plan: &Plan) -> Result<(), End>
-    ensures built { OnOk result (IsBuilt plan.now) }
-    ensures ok { OnOk result ((next : Outcome) → with_built plan.now next ≡ next) }
-    ensures err { IfErr result (λ end. (next : Outcome) → IsRefused (with_built plan.now next) end) }
-{
-    if is_built(plan) {
-        Ok(())
-    } else {
-        Err(End::Refused(Refusal::NotBuilt))
     }
 }

@@ -17,8 +17,6 @@ pub(crate) enum Refusal {
     Description(DescFault),
     /// The description has no domain of the name.
     NoDomain,
-    /// The network of the description is not simulated yet.
-    NotBuilt,
     /// The text's first fault.
     Text(TextFault),
     /// The trace's first fault.
@@ -31,7 +29,7 @@ impl Refusal {
         ensures { result ≡ status_of_refusal self.now }
     {
         match self {
-            Refusal::Description(_) | Refusal::NotBuilt => Status::Description,
+            Refusal::Description(_) => Status::Description,
             Refusal::NoDomain => Status::Domain,
             Refusal::Text(_) => Status::Text,
             Refusal::Trace(_) => Status::Trace,
@@ -46,7 +44,6 @@ impl Refusal {
         match self {
             Refusal::Description(fault) => print_fault(fault, err),
             Refusal::NoDomain => say(err, b"surf: no such domain\n"),
-            Refusal::NotBuilt => say(err, b"surf: description not built\n"),
             Refusal::Text(fault) => print_text_fault(fault, err),
             Refusal::Trace(fault) => print_trace_fault(fault, err),
         }

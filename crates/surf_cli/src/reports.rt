@@ -2,7 +2,6 @@
 
 ghost use Rattle.std.specs.Prelude.{◌≡◌, ◌<◌, ◌≤◌, None, length, IfOk};
 ghost use Rattle.surf_base.specs.Block.{Writes, stream};
-ghost use Rattle.cycle_sim.specs.Net.{IsBuilt};
 ghost use Rattle.noc_model.specs.Limits.{most_cycles};
 ghost use Rattle.noc_model.specs.Report.{report};
 ghost use Rattle.vl_tree.specs.Read.{read_design};
@@ -29,8 +28,12 @@ pub(crate) struct Reports {
 }
 
 /// The events of all domains in a run that the trace drives.
-fn simulate(alloc: Global, plan: &Plan, trace: &Trace, cycles: u32) -> Result<Events, AllocError>
-    requires built { IsBuilt plan.now }
+pub(crate) fn simulate(
+    alloc: Global,
+    plan: &Plan,
+    trace: &Trace,
+    cycles: u32,
+) -> Result<Events, AllocError>
     requires few { cycles ≤ most_cycles }
     ensures { IfOk result (λ events. AreAlone plan.now events trace.now cycles) }
 {
@@ -63,7 +66,6 @@ impl Reports {
         trace: &Trace,
         cycles: u32,
     ) -> Result<Reports, AllocError>
-        requires built { IsBuilt plan }
         requires few { cycles ≤ most_cycles }
         ensures { IfOk result (λ reports. reports_of reports.plan (events_of reports.events)
             ≡ reports_text plan trace.now cycles) }
@@ -120,7 +122,6 @@ impl OneReport {
         cycles: u32,
         domain: u32,
     ) -> Result<OneReport, AllocError>
-        requires built { IsBuilt plan }
         requires few { cycles ≤ most_cycles }
         requires there { domain < length plan.domains }
         ensures { IfOk result (λ one. report one.plan one.domain (events_of one.events one.domain)

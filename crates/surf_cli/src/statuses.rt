@@ -14,7 +14,7 @@ pub enum Status {
     Good,
     /// The words are no command.
     Usage,
-    /// The description has a fault, or describes a network that is not built.
+    /// The description has a fault.
     Description,
     /// The trace has a fault.
     Trace,

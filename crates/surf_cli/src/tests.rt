@@ -10,6 +10,36 @@ domain = [{name = \"a\", channels = 1}, {name = \"b\", channels = 1}]\n\
 tile = [{at = 0, domains = [\"a\", \"b\"]}, {at = 1, domains = [\"a\", \"b\"]}]\n\
 range = [{tile = 0, first = 0x0, last = 0xff}, {tile = 1, first = 0x100, last = 0x1ff}]\n";
 
+const ONE_LINK: &str = "version = 1\nshape = \"mesh\"\ndims = [2]\nstages = 1\nbuffer = 2\n\
+domain = [{name = \"a\", channels = 1}, {name = \"b\", channels = 1}]\n\
+tile = [{at = 0, domains = [\"a\", \"b\"]}, {at = 1, domains = [\"a\", \"b\"]}]\n\
+range = [{tile = 0, first = 0x0, last = 0xff}, {tile = 1, first = 0x100, last = 0x1ff}]\n";
+
+const HALF_A_RING: &str = "version = 1\nshape = \"torus\"\ndims = [4]\nstages = 1\nbuffer = 2\n\
+domain = [{name = \"a\", channels = 1}]\n\
+tile = [{at = 0, domains = [\"a\"]}, {at = 2, domains = [\"a\"]}]\n\
+range = [{tile = 2, first = 0x200, last = 0x2ff}]\n";
+
+const SPLIT_DOMAINS: &str = "version = 1\nshape = \"mesh\"\ndims = [2]\nstages = 1\nbuffer = 2\n\
+domain = [{name = \"a\", channels = 1}, {name = \"b\", channels = 1}]\n\
+tile = [{at = 0, domains = [\"a\"]}, {at = 1, domains = [\"b\"]}]\n\
+range = [{tile = 1, first = 0x100, last = 0x1ff}]\n";
+
+const ROW_OF_THREE: &str = "version = 1\nshape = \"mesh\"\ndims = [3]\nstages = 1\nbuffer = 4\n\
+domain = [{name = \"a\", channels = 1}]\n\
+tile = [{at = 0, domains = [\"a\"]}, {at = 1, domains = [\"a\"]}, {at = 2, domains = [\"a\"]}]\n\
+range = [{tile = 1, first = 0x100, last = 0x1ff}]\n";
+
+const RING_OF_THREE: &str = "version = 1\nshape = \"torus\"\ndims = [3]\nstages = 1\nbuffer = 2\n\
+domain = [{name = \"a\", channels = 1}]\n\
+tile = [{at = 0, domains = [\"a\"]}, {at = 1, domains = [\"a\"]}, {at = 2, domains = [\"a\"]}]\n\
+range = [{tile = 0, first = 0x0, last = 0xff}]\n";
+
+const ROW_OF_FIVE: &str = "version = 1\nshape = \"mesh\"\ndims = [5]\nstages = 4\nbuffer = 2\n\
+domain = [{name = \"a\", channels = 1}, {name = \"b\", channels = 1}, {name = \"c\", channels = 1}]\n\
+tile = [{at = 0, domains = [\"a\", \"b\", \"c\"]}, {at = 4, domains = [\"a\", \"b\", \"c\"]}]\n\
+range = [{tile = 0, first = 0x0, last = 0xff}, {tile = 4, first = 0x400, last = 0x4ff}]\n";
+
 const OVERLAPPING: &str = "version = 1\nshape = \"mesh\"\ndims = [2]\nstages = 1\nbuffer = 2\n\
 domain = [{name = \"a\", channels = 1}, {name = \"b\", channels = 1}]\n\
 tile = [{at = 0, domains = [\"a\", \"b\"]}, {at = 1, domains = [\"a\", \"b\"]}]\n\
@@ -17,7 +47,9 @@ range = [{tile = 0, first = 0x0, last = 0xff}, {tile = 1, first = 0xff, last = 0
 
 const WEIGHTED: &str = "version = 2\nshape = \"mesh\"\ndims = [2]\nstages = 1\nbuffer = 2\n\
 domain = [{name = \"a\", channels = 1}, {name = \"b\", channels = 1}]\n\
-slots = [\"a\", \"a\", \"b\"]\n";
+slots = [\"a\", \"a\", \"b\"]\n\
+tile = [{at = 0, domains = [\"a\", \"b\"]}, {at = 1, domains = [\"a\", \"b\"]}]\n\
+range = [{tile = 0, first = 0x0, last = 0xff}, {tile = 1, first = 0x100, last = 0x1ff}]\n";
 
 const ONE_TILE: &str = "version = 1\nshape = \"mesh\"\ndims = [1]\nstages = 1\nbuffer = 2\n\
 domain = [{name = \"a\", channels = 1}]\n\
@@ -32,7 +64,9 @@ const NUMBER_AS_DOMAIN: &str =
     "version = 1\nshape = \"mesh\"\ndims = [2]\nstages = 2\nbuffer = 2\ndomain = [1]\n";
 
 const CUBE: &str = "version = 2\nshape = \"mesh\"\ndims = [2, 2, 2]\nstages = 1\nbuffer = 2\n\
-domain = [{name = \"a\", channels = 1}]\nslots = [\"a\"]\n";
+domain = [{name = \"a\", channels = 1}]\nslots = [\"a\"]\n\
+tile = [{at = 0, domains = [\"a\"]}, {at = 7, domains = [\"a\"]}]\n\
+range = [{tile = 7, first = 0x700, last = 0x7ff}]\n";
 
 const TOO_MANY_TILES: &str =
     "version = 2\nshape = \"mesh\"\ndims = [16, 16, 2]\nstages = 1\nbuffer = 2\n\
@@ -44,12 +78,6 @@ domain = [{name = \"a\", channels = 1}]\n";
 
 const RING_OF_FOUR: &str = "version = 1\nshape = \"torus\"\ndims = [4]\nstages = 1\nbuffer = 2\n\
 domain = [{name = \"a\", channels = 1}]\n";
-
-const RING_OF_ONE: &str = "version = 1\nshape = \"torus\"\ndims = [1]\nstages = 1\nbuffer = 2\n\
-domain = [{name = \"a\", channels = 1}]\n";
-
-const TWO_CHANNELS: &str = "version = 1\nshape = \"mesh\"\ndims = [1]\nstages = 1\nbuffer = 2\n\
-domain = [{name = \"a\", channels = 2}]\n";
 
 const ONE_PLACE: &str = "version = 1\nshape = \"mesh\"\ndims = [1]\nstages = 1\nbuffer = 1\n\
 domain = [{name = \"a\", channels = 1}]\n\
@@ -383,6 +411,97 @@ fn one_tile_gives_its_reports(rt: HostRuntime) -> Result<(), Fail> {
     Ok(())
 }
 
+const MEET: &str = "0 0 a send 100 a\n0 0 b send 100 b\n";
+
+const CROWDED: &str = "0 0 a send 100 a\n0 0 b send 100 b\n0 0 b send 100 1 2 3 4 5 6 7 8\n";
+
+const ALONE_IN_A: &str = "domain a\n0 0 take 0000000a\n9 1 got 11 0000000a\nend 1 0 0 1\n";
+
+#[test]
+fn many_tiles_give_their_reports(rt: HostRuntime) -> Result<(), Fail> {
+    let rows = [
+        (
+            "simulate d t 12",
+            ONE_LINK,
+            MEET,
+            "domain a\n0 0 take 0000000a\n9 1 got 11 0000000a\nend 1 0 0 1\n\
+domain b\n0 0 take 0000000b\n8 1 got 11 0000000b\nend 1 0 0 1\n",
+        ),
+        (
+            "report d t 12 b",
+            ONE_LINK,
+            MEET,
+            "domain b\n0 0 take 0000000b\n8 1 got 11 0000000b\nend 1 0 0 1\n",
+        ),
+        ("report d t 12 a", ONE_LINK, CROWDED, ALONE_IN_A),
+        (
+            "simulate d t 4",
+            SPLIT_DOMAINS,
+            "0 0 a send 100 5\n",
+            "domain a\n0 0 take 00000005\n1 0 drop\nend 1 0 1 0\ndomain b\nend 0 0 0 0\n",
+        ),
+        (
+            "simulate d t 10",
+            RING_OF_THREE,
+            "0 2 a send 0 9\n",
+            "domain a\n0 2 take 00000009\n8 0 got 11 00000009\nend 1 0 0 1\n",
+        ),
+        (
+            "simulate d t 14",
+            HALF_A_RING,
+            "0 0 a send 200 7\n",
+            "domain a\n0 0 take 00000007\n12 2 got 11 00000007\nend 1 0 0 1\n",
+        ),
+        (
+            "simulate d t 14",
+            ROW_OF_THREE,
+            "0 0 a send 100 a1 a2\n0 2 a send 100 b1 b2\n",
+            "domain a\n0 0 take 000000a1\n0 2 take 000000b1\n1 0 take 000000a2\n1 2 take 000000b2\n\
+8 1 got 10 000000b1\n9 1 got 01 000000b2\n11 1 got 10 000000a1\n12 1 got 01 000000a2\nend 4 0 0 4\n",
+        ),
+        (
+            "simulate d t 36",
+            ROW_OF_FIVE,
+            "0 0 a send 400 1\n0 4 b send 0 2\n0 0 c send 400 3\n",
+            "domain a\n0 0 take 00000001\n32 4 got 11 00000001\nend 1 0 0 1\n\
+domain b\n0 4 take 00000002\n32 0 got 11 00000002\nend 1 0 0 1\n\
+domain c\n0 0 take 00000003\n34 4 got 11 00000003\nend 1 0 0 1\n",
+        ),
+        (
+            "simulate d t 12",
+            WEIGHTED,
+            MEET,
+            "domain a\n0 0 take 0000000a\n8 1 got 11 0000000a\nend 1 0 0 1\n\
+domain b\n0 0 take 0000000b\n10 1 got 11 0000000b\nend 1 0 0 1\n",
+        ),
+        (
+            "simulate d t 20",
+            CUBE,
+            "0 0 a send 700 5\n",
+            "domain a\n0 0 take 00000005\n16 7 got 11 00000005\nend 1 0 0 1\n",
+        ),
+    ];
+    for (words, content, trace, lines) in rows {
+        let content = Some(content.as_bytes());
+        let (status, out, err) = run(&rt, words, content, Some(trace), &[], &[])?;
+        assert!(rt; status == Status::Good, "{words}");
+        assert_eq!(rt; out.as_str(), lines, "{words}");
+        assert_eq!(rt; err.as_str(), "", "{words}");
+    }
+    Ok(())
+}
+
+#[test]
+fn a_busy_domain_changes_no_byte_of_another(rt: HostRuntime) -> Result<(), Fail> {
+    let content = Some(ONE_LINK.as_bytes());
+    for trace in [MEET, CROWDED] {
+        let (status, out, _) = run(&rt, "simulate d t 12", content, Some(trace), &[], &[])?;
+        assert!(rt; status == Status::Good);
+        assert!(rt; out.as_str().starts_with(ALONE_IN_A));
+    }
+    Ok(())
+}
+
 #[test]
 fn refused_simulations_say_why(rt: HostRuntime) -> Result<(), Fail> {
     let rows = [
@@ -425,22 +544,8 @@ fn refused_simulations_say_why(rt: HostRuntime) -> Result<(), Fail> {
             "simulate d t 6",
             TWO_TILES,
             "0 0 a send",
-            Status::Description,
-            "surf: description not built\n",
-        ),
-        (
-            "simulate d t 6",
-            RING_OF_ONE,
-            "",
-            Status::Description,
-            "surf: description not built\n",
-        ),
-        (
-            "simulate d t 6",
-            TWO_CHANNELS,
-            "",
-            Status::Description,
-            "surf: description not built\n",
+            Status::Trace,
+            "surf: trace fault 1 line 1\n",
         ),
         (
             "simulate d t 6",
@@ -476,6 +581,13 @@ fn refused_simulations_say_why(rt: HostRuntime) -> Result<(), Fail> {
             "0 0 q hold 1",
             Status::Trace,
             "surf: trace fault 4 line 1\n",
+        ),
+        (
+            "simulate d t 6",
+            SPLIT_DOMAINS,
+            "0 1 a hold 1",
+            Status::Trace,
+            "surf: trace fault 5 line 1\n",
         ),
         (
             "simulate d t 6",
@@ -776,5 +888,35 @@ fn failing_calls_of_a_replay_give_their_status(rt: HostRuntime) -> Result<(), Fa
     assert!(rt; status == Status::Read);
     assert_eq!(rt; out.as_str(), "");
     assert_eq!(rt; err.as_str(), "surf: read failed\n");
+    Ok(())
+}
+
+#[test]
+fn a_stress_run_gives_its_counts(rt: HostRuntime) -> Result<(), Fail> {
+    let rows = [
+        (
+            "stress 1 1",
+            Status::Good,
+            "d0 takes 6 waits 0 drops 0 gots 0 held 6\nd1 takes 8 waits 0 drops 0 gots 0 held 8\n\
+d2 takes 8 waits 0 drops 0 gots 0 held 8\nd3 takes 6 waits 0 drops 0 gots 0 held 6\n",
+            "",
+        ),
+        (
+            "stress 1 1000",
+            Status::Good,
+            "d0 takes 937 waits 385 drops 0 gots 921 held 16\nd1 takes 1239 waits 287 drops 0 gots 1214 held 25\n\
+d2 takes 1244 waits 295 drops 0 gots 1210 held 34\nd3 takes 925 waits 626 drops 0 gots 900 held 25\n",
+            "",
+        ),
+        ("stress 1 65537", Status::Usage, "", "surf: usage\n"),
+        ("stress 4294967296 1", Status::Usage, "", "surf: usage\n"),
+        ("stress 1", Status::Usage, "", "surf: usage\n"),
+    ];
+    for (words, status, lines, line) in rows {
+        let (given, out, err) = run_over(&rt, words, &[], &[], &[])?;
+        assert!(rt; given == status, "{words}");
+        assert_eq!(rt; out.as_str(), lines, "{words}");
+        assert_eq!(rt; err.as_str(), line, "{words}");
+    }
     Ok(())
 }

@@ -12,7 +12,7 @@ use super::{Command, Job};
 use crate::answers::Text;
 use crate::contents::Contents;
 use crate::files::{FileKind, NamedFile, NamedFiles};
-use crate::judging::{judge, judge_domain, judge_trace, needs_built};
+use crate::judging::{judge, judge_domain, judge_trace};
 use crate::reports::OneReport;
 use crate::statuses::End;
 use desc_check::is_name;
@@ -56,7 +56,6 @@ pub(super) fn make(
 {
     let plan = judge(alloc, contents.description.as_slice())?;
     let d = judge_domain(&plan, domain.as_bytes())?;
-    needs_built(&plan)?;
     let trace = judge_trace(alloc, &plan, contents.trace.as_slice())?;
     drop(contents);
     let report = OneReport::simulated(alloc, plan, &trace, cycles, d)?;

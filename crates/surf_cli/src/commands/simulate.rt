@@ -12,7 +12,7 @@ use super::{Command, Job};
 use crate::answers::Text;
 use crate::contents::Contents;
 use crate::files::{FileKind, NamedFile, NamedFiles};
-use crate::judging::{judge, judge_trace, needs_built};
+use crate::judging::{judge, judge_trace};
 use crate::reports::Reports;
 use crate::statuses::End;
 use noc_model::limits::MOST_CYCLES;
@@ -45,7 +45,6 @@ pub(super) fn make(alloc: Global, contents: Contents, cycles: u32) -> Result<Tex
     ensures err { IfErr result (λ end. IsRefused (over (Simulate cycles) (gathered contents)) end) }
 {
     let plan = judge(alloc, contents.description.as_slice())?;
-    needs_built(&plan)?;
     let trace = judge_trace(alloc, &plan, contents.trace.as_slice())?;
     drop(contents);
     let reports = Reports::simulated(alloc, plan, &trace, cycles)?;

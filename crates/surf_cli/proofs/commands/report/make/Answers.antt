@@ -15,7 +15,7 @@ returns-in_err-trace-clause-err c =
       domain = c.in_ok-d.ensures.ok;
     } in
     rw (e.1, e.2) (trace-stops (gathered c.args.contents) c.args.cycles c.args.domain.now c.as_slice.result.now c.as_slice-2.result.now
-    c.in_ok-plan.plan c.in_ok-d.d _ found c.as_slice-2.ensures.value c.in_ok-needs_built.ensures.ok c.in_err-trace.ensures.err)
+    c.in_ok-plan.plan c.in_ok-d.d _ found c.as_slice-2.ensures.value c.in_err-trace.ensures.err)
 
 pub returns-clause-ok : goal.returns-clause-ok
 returns-clause-ok c =
@@ -28,5 +28,5 @@ returns-clause-ok c =
       domain = c.in_ok-d.ensures.ok;
     } in
     report-made (gathered c.args.contents) c.args.cycles c.args.domain.now c.as_slice.result.now c.as_slice-2.result.now _
-    c.in_ok-plan.plan c.in_ok-d.d c.in_ok-trace.trace found c.as_slice-2.ensures.value c.in_ok-needs_built.ensures.ok
+    c.in_ok-plan.plan c.in_ok-d.d c.in_ok-trace.trace found c.as_slice-2.ensures.value
     c.in_ok-trace.ensures.ok c.in_ok-report.ensures
