@@ -23,9 +23,6 @@ module _ (p : Plan) (n : ℕ) (sound : IsSound p) (inside : n < tiles p) where
   lines = ls p n sound inside
 
   module _ (d : ℕ) (there : d < length p.domains) where
-    outs-local : (w : ℕ) → w < 1 → w < Rattle.leaf_tie.specs.Alloc.out_count (Rattle.leaf_tie.specs.Tie.alloc_size p d 0)
-    outs-local w less = omega arith
-
     channel-good : (o : ℕ) (link : HasLink p n o) (x : ℕ) → x < link_channels p d → GoodGroups lines (Rattle.leaf_tie.specs.Whole.channel_groups p d leaf_names net_names (port_names n) (credit_base p) (leaf_sizes p) o x)
     channel-good zero link x less = absurd (Rattle.leaf_sound.proofs.Ranked.no-local p n link.1)
     channel-good (suc o) link x less =

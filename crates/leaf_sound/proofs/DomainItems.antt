@@ -50,9 +50,6 @@ module _ (p : Plan) (n : ℕ) (sound : IsSound p) (inside : n < tiles p) (d : �
   abbrev lines : List Line
   lines = ls p n sound inside
 
-  h : ℕ
-  h = high p d
-
   some-links : (1 ≤ link_channels p d) × (link_channels p d ≤ 8)
   some-links = few-links p d sound there
 
@@ -131,9 +128,6 @@ module _ (p : Plan) (n : ℕ) (sound : IsSound p) (inside : n < tiles p) (d : �
   -- ---- allocation
 
   module _ (o : ℕ) (low : o < ports p) (has : has_port p n d o ≡ true) where
-    z : AllocSize
-    z = alloc_size p d o
-
     few-o : o < 8
     few-o = facts.few-o p n sound inside d there o low
 
@@ -211,8 +205,6 @@ module _ (p : Plan) (n : ℕ) (sound : IsSound p) (inside : n < tiles p) (d : �
         (good-each lines (out_count (alloc_size p d o)) (λ w less. reg-next lines (facts.active p n sound inside d there o low has w less) (good-nil lines)))))
 
     -- the moves
-    A : Name → Type 0
-    A = Any lines
 
     taken-are : (c : ℕ) → c ≤ (alloc_size p d o).last → Rattle.leaf_sound.proofs.Typed.Are lines (Any lines) (taken_parts (leaf_names.alloc d o) c) ((c + 1) * ((alloc_size p d o).size + 1)) 1
     taken-are zero le = subst (λ w. Rattle.leaf_sound.proofs.Typed.Are lines (Any lines) (taken_parts (leaf_names.alloc d o) 0) w 1) (omega arith) (next-are lines (Any lines) (net-is lines (Any lines) (facts.taken p n sound inside d there o low has 0 (omega arith)).its tt) (none-are lines (Any lines) 1))

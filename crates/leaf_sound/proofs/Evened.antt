@@ -140,7 +140,6 @@ module _ (x : Name) where
 
   switch-even : (a : SwitchNames) (z : SwitchSize) → EvenGroup (switch_group a z)
   switch-even a z =
-      let m = z.last + 1 in
       let ports = evens (z.last + 1) (port_nets a z) (λ k. omega arith) in
       let outputs = evens (z.last + 1) (output_nets a z) (λ k. omega arith) in
       let grants = evens (z.last + 1) (grant_nets a z) (λ k. omega arith) in

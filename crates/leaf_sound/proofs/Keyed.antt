@@ -147,7 +147,6 @@ unfolding rank
 rank-own t i small few =
     let tag = decimal_is_IsNumeral t small in
     let number = decimal_is_IsNumeral i few in
-    let shape : (decimal t ++ 95 ∷ (decimal i ++ [])) ≡ decimal t ++ 95 ∷ (decimal i ++ []) = refl in
     let split = upto-digits (decimal t) (decimal i ++ []) tag.0.1 in
     let first : digits_value 10 (upto (decimal t ++ 95 ∷ (decimal i ++ []))) ≡ t = ap (digits_value 10) split.0 ∙ tag.1 in
     let second : digits_value 10 (upto (behind (decimal t ++ 95 ∷ (decimal i ++ [])))) ≡ i = ap (λ z. digits_value 10 (upto z)) split.1 ∙ ap (digits_value 10) (upto-last (decimal i) number.0.1) ∙ number.1 in

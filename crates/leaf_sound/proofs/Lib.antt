@@ -29,3 +29,4 @@ mod Readied
 mod Sounded
 mod Joint
 mod Running
+mod Rows

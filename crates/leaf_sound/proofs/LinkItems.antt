@@ -147,7 +147,6 @@ module _ (p : Plan) (n : ℕ) (sound : IsSound p) (inside : n < tiles p) (d : �
     pub credit-good : (x : ℕ) (less : x < link_channels p d) → Good lines (credit_group (leaf_names.credits d o x) (bit ((port_names n).credit_in o (credit_base p d + x)) ((port_names n).credit_bit (credit_base p d + x))) (net (net_names.on d o x)) (leaf_sizes p).lh p.buffer).moves
     credit-good x less =
         let c = facts.credits p n sound inside d there o link x less in
-        let A = Any lines in
         let few = few-l in
         let on = net-is lines (Any lines) (facts.on p n sound inside d there o link x less).its tt in
         let count = net-is lines (Any lines) c tt in
@@ -185,7 +184,6 @@ module _ (p : Plan) (n : ℕ) (sound : IsSound p) (inside : n < tiles p) (d : �
       let few = facts.few-word p n sound inside d there in
       let fits = channels-fit in
       let cb = some-channel in
-      let dests = few-dest in
       let on : (k : ℕ) → k ≤ link_channels p d - 1 → Is lines (May lines (net_names.word d (suc o))) (net (net_names.on d (suc o) k)) 1 1 = λ k le. wire-in lines t (facts.on p n sound inside d there (suc o) link k (omega (arith, low_links, le))) (omega (arith, high_links, low_links, le)) in
       net-next lines t
       (wide-as lines P (let e : 1 + (channel_bits p + (34 + dest_bits p + 0)) ≡ channel_bits p + flit_bits p + 1 = omega arith in e)
@@ -213,7 +211,6 @@ module _ (p : Plan) (n : ℕ) (sound : IsSound p) (inside : n < tiles p) (d : �
       let some = sound.slot_count.0 in
       let most = sound.slot_count.1 in
       let domains = sound.domains.1 in
-      let k = arriving_slot p m (opposite (suc port)) in
       let below = slot-below p m (pos 0 -ℤ pos p.stages) (way_of (opposite (suc port))) some in
       let owns = shared.owns p n sound inside (arriving_slot p m (opposite (suc port))) (slot-below p m (pos 0 -ℤ pos p.stages) (way_of (opposite (suc port))) some) (uses-arriving p n (suc port) m e) d there in
       let l = shared.link-in p n sound inside (suc port) link in
@@ -222,7 +219,6 @@ module _ (p : Plan) (n : ℕ) (sound : IsSound p) (inside : n < tiles p) (d : �
       let cb = some-channel in
       let fits = channels-fit in
       let few = facts.few-word p n sound inside d there in
-      let high_links = some-links in let top = high_links.1 in
       assign-next lines b.push (two-is lines P And (deeper lines P 3 (omega arith) (net-is lines P owns.its (by-rank lines (leaf_names.buffer d (suc port) c).push ((leaf_names.slot (arriving_slot p m (opposite (suc port)))).owns d) (at d 10 (suc port) + 2 * c + 1) (2048 * (1024 + arriving_slot p m (opposite (suc port))) + d + 1) b.push owns.at_rank (omega (arith, below, most, domains, there)))))
       (two-is lines P And (deeper lines P 2 (omega arith) (bit-is lines P (channel_bits p + flit_bits p) l.its may (omega arith)))
       (two-is lines P Equal (part-is lines P (channel_bits p + flit_bits p - 1) (flit_bits p) (channel_bits p) l.its may (omega (arith, cb)) (omega (arith, cb)) (omega (arith, cb))) (number-is lines P (channel_bits p) c cb (omega (arith, few)) (omega (arith, fits, less)))))) (omega arith)
@@ -235,7 +231,6 @@ module _ (p : Plan) (n : ℕ) (sound : IsSound p) (inside : n < tiles p) (d : �
       let few_index = facts.few-index p n sound inside d there in
       let few = few-l in
       let size = mem-size (leaf_sizes p).bh (index-few p.buffer) in
-      let A = Any lines in
       let push_net = net-is lines (Any lines) b.push.its tt in
       let pop_net = net-is lines (Any lines) b.pop.its tt in
       let count = net-is lines (Any lines) b.count tt in
@@ -332,7 +327,6 @@ module _ (p : Plan) (n : ℕ) (sound : IsSound p) (inside : n < tiles p) (d : �
 
     pub eject-moves : Good lines (eject_group p n leaf_names net_names (port_names n) (dest_bits p) d).moves
     eject-moves =
-        let A = Any lines in
         let e = facts.eject p n sound inside d there host in
         let kept = facts.ejected p n sound inside d there host in
         clocked-next lines kept
@@ -443,7 +437,6 @@ module _ (p : Plan) (n : ℕ) (sound : IsSound p) (inside : n < tiles p) (d : �
 
     pub attach-moves : Good lines (attach_group p n d (attach_names leaf_names net_names d) (port_names n) (attach_size p (leaf_sizes p) (dest_bits p) d)).moves
     attach-moves =
-        let A = Any lines in
         let k = net-is lines (Any lines) (facts.taken-net p n sound inside d there host).its tt in
         let g = net-is lines (Any lines) (facts.goes p n sound inside d there host).its tt in
         let to = net-is lines (Any lines) (facts.to p n sound inside d there host).its tt in

@@ -125,8 +125,7 @@ module _ (p : Plan) (n : ℕ) (sound : IsSound p) (inside : n < tiles p) where
     first-out : AllByRecursion (OutIs lines) (credit_bundle p n q 0 (min (credit_bits p) 64)).nets
     first-out =
         let m = min-facts (credit_bits p) some-credit in
-        let a = m.0 in let b = m.1 in let c = m.2 in
-        let t = name_with (codes "co") (n ∷ q ∷ []) in (
+        let a = m.0 in let b = m.1 in let c = m.2 in (
           out-is (out-net link-ports.1.1.1.0 (omega arith) (pair-plain 99 111 n q refl refl small low-q))
               (wide-as lines (May lines (name_with (codes "co") (n ∷ q ∷ []))) (let e : (min (credit_bits p) 64 - 1 + 1) * 1 ≡ min (credit_bits p) 64 - 1 + 1 = omega arith in e)
               (row-is lines (May lines (name_with (codes "co") (n ∷ q ∷ []))) (min (credit_bits p) 64 - 1) 1 1 (λ k le. pulse-bit (name_with (codes "co") (n ∷ q ∷ [])) (0 + k) (omega (arith, a, c, le))) (omega arith) (omega (arith, a, b)))) (omega arith),
@@ -166,9 +165,7 @@ module _ (p : Plan) (n : ℕ) (sound : IsSound p) (inside : n < tiles p) where
         let e = facts.ejected p n sound inside d there host in
         let may : (t : Name) → May lines t (leaf_names.ejected d) = λ t. by-register lines t e in
         let dropped = facts.dropped p n sound inside d there host in
-        let dropping = facts.dropping p n sound inside d there host in
-        let v = (out_names n).valid d in
-        let R = May lines ((out_names n).ready d) in (
+        let dropping = facts.dropping p n sound inside d there host in (
           out-is (out-net its-ports.1.1.1.1.1.1.1.0 (omega arith) (pair-plain 101 118 n d refl refl small low-d)) (bit-is lines (May lines ((out_names n).valid d)) 34 e (may ((out_names n).valid d)) (omega arith)) (omega arith),
           (
             out-is (out-net its-ports.1.1.1.1.1.1.1.1.0 (omega arith) (pair-plain 101 104 n d refl refl small low-d)) (bit-is lines (May lines ((out_names n).head d)) 33 e (may ((out_names n).head d)) (omega arith)) (omega arith),

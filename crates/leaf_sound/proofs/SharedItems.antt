@@ -151,13 +151,9 @@ module _ (p : Plan) (n : ℕ) (sound : IsSound p) (inside : n < tiles p) where
 
     row-zero : Is lines (Any lines) (owners_word (link_names p n leaf_names net_names q) (channel_bits p + flit_bits p) (length p.domains)) (channel_bits p + flit_bits p + 1) (length p.domains + 1)
     row-zero =
-        let k = leaving_slot p n q in
         let some = sound.slot_count.0 in
         owners-is lines (Any lines) (link_names p n leaf_names net_names q) (channel_bits p + flit_bits p) (length p.domains) (few-word-bits p n sound inside)
         (λ e less. ((owns p n sound inside (leaving_slot p n q) (slot-below p n (pos 0) (way_of q) some) (uses-leaving p n q link) e less).its, tt, (word p n sound inside e less q link).its, tt))
-
-    few-stages : 1 ≤ p.stages
-    few-stages = sound.stages.0
 
     link-moves : Good lines (link_group (link_names p n leaf_names net_names q) (channel_bits p + flit_bits p) (length p.domains) (p.stages - 1)).moves
     link-moves =
