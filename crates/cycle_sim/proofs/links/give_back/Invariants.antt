@@ -1,17 +1,17 @@
-use Rattle.std.proofs.Common.{◌≡◌, ◌≢◌, ◌≤◌, ℕ}
+use Rattle.std.proofs.Common.{◌≡◌, ◌≤◌, ◌<◌, ℕ, length}
 use Rattle.noc_model.specs.Plan.{ports}
 use Rattle.noc_model.specs.Tile.{Tile}
 use Rattle.router_core.specs.Sizes.{IsMade}
 use Rattle.router_core.specs.Shown.{Shows}
 use Rattle.cycle_sim.specs.Links.{credit_at, repaid}
 use Rattle.cycle_sim.proofs.Comings.{with_credits}
-use Rattle.cycle_sim.proofs.links.give_back_to.Given as goal
+use Rattle.cycle_sim.proofs.links.give_back.Given as goal
 
 abbrev pub invariant-loop-port : goal.invariant-loop-port
 invariant-loop-port l = record {
   within : l.port ≤ ports l.plan;
   rest : l.router ≡ with_credits l.initial.router l.router.credits;
   made : IsMade l.router l.plan;
-  own : (s : Tile) → Shows l.initial.router l.plan l.d s → Shows l.router l.plan l.d (repaid (credit_at l.plan l.d l.tile l.pulses) l.port s);
-  others : (e : ℕ) (s : Tile) → e ≢ l.d → Shows l.initial.router l.plan e s → Shows l.router l.plan e s;
+  shows : (d : ℕ) (s : Tile) → d < length l.plan.domains → Shows l.initial.router l.plan d s
+      → Shows l.router l.plan d (repaid (credit_at l.plan d l.tile l.pulses) l.port s);
 }
