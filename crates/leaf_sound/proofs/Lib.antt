@@ -1,15 +1,15 @@
 pub mod Bits
-pub mod Keyed
-pub mod Rising
+mod Keyed
+mod Rising
 mod Ranked
 mod Nets
 mod Moved
 mod Headed
-pub mod Inner
+mod Inner
 mod Evened
 mod Ported
-pub mod Outs
-pub mod Named
+mod Outs
+mod Named
 mod Typed
 mod Walk
 mod Plainly
@@ -26,7 +26,7 @@ mod OutItems
 mod Priors
 mod Heads
 mod Readied
-mod Sounded
-mod Joint
+pub mod Sounded
+pub mod Joint
 mod Running
 mod Rows

@@ -1,6 +1,6 @@
 -- The leaf of a tile has what holds the tile.
-use Rattle.std.proofs.Common.{◌≡◌, ℕ, zero, suc, ◌+◌, ◌-◌, ◌<◌, ◌≤◌, inl, inr, Bool, true, false, List, [], ◌∷◌, map, length, Option, refl, sym, ◌∙◌, ap, subst, arith, ◌==◌}
-use Rattle.std.specs.Prelude.{Some, None, IsSome, is_some, filter, flat_map, nat_lt, min, if◌then◌else◌, codes}
+use Rattle.std.proofs.Common.{◌≡◌, ℕ, ◌+◌, ◌-◌, ◌<◌, ◌≤◌, inl, inr, Bool, true, false, List, [], ◌∷◌, map, length, refl, sym, ◌∙◌, ap, subst, arith, ◌==◌}
+use Rattle.std.specs.Prelude.{is_some, filter, flat_map, nat_lt, min, if◌then◌else◌, codes}
 use Rattle.std.specs.List.{AllByRecursion}
 use Rattle.std.proofs.lemmas.Bool.Decides.{nat_tests}
 use Rattle.std.proofs.lemmas.List.{append-nil}
@@ -15,7 +15,6 @@ use Rattle.noc_model.specs.Events.{tabulate}
 use Rattle.noc_model.specs.Plan.{Plan, tiles, ports, hosts}
 use Rattle.noc_model.specs.Place.{neighbour}
 use Rattle.noc_model.specs.Sound.{IsSound}
-use Rattle.noc_model.proofs.Ports.{link-port}
 use Rattle.gen_kit.specs.Groups.{Group}
 use Rattle.gen_kit.specs.Ports.{name_with, host_ports}
 use Rattle.gen_kit.specs.Shape.{Tied, credit_bits, host_ties, link_ties, tile_ties}
@@ -23,9 +22,10 @@ use Rattle.gen_kit.specs.Replayed.{host_of}
 use Rattle.gen_kit.proofs.Parts.{held-front}
 use Rattle.flit_word.specs.Words.{dest_bits}
 use Rattle.leaf_tie.specs.Tie.{HasLink}
-use Rattle.leaf_tie.specs.Whole.{each_group, Joined}
+use Rattle.leaf_tie.specs.Whole.{each_group}
 use Rattle.leaf_tie.specs.Outs.{link_out_group, local_out_group, credit_out_group}
 use Rattle.leaf_tie.specs.Names.{leaf_names, net_names, port_names, out_names, leaf_sizes, credit_bundle, credit_domain, credit_channel, link_outs, out_groups, leaf_module}
+use Rattle.leaf_sound.proofs.Joint.{names-joined}
 use Rattle.leaf_tie.proofs.Members.{Member, in-front, in-back, in-each, in-then}
 use Rattle.shape_sound.proofs.Rising.{Rises}
 use Rattle.shape_sound.proofs.Lines.{LinesRise, lines-ports, Finds, finds-all}
@@ -113,23 +113,6 @@ module _ (p : Plan) (n : ℕ) (sound : IsSound p) (below : n < tiles p) where
 
   -- ---- names
 
-  stored-word : (d o c : ℕ) → HasLink p n o → (leaf_names.buffer d o c).word ≡ net_names.stored o
-  stored-word d zero c link = absurd (link-port p n 0 (some (neighbour p n 0) link.1) refl)
-    where
-      some : (x : Option ℕ) → is_some x ≡ true → IsSome x
-      some None e = absurd (cc e)
-      some (Some m) e = e
-  stored-word d (suc o) c link = refl
-
-  joined : Joined p n leaf_names net_names (port_names n) (leaf_widths l)
-  joined = record {
-    ends = λ d o. refl;
-    stored = stored-word;
-    local = λ d c there. refl;
-    last = λ d there. (host-wide d there).1.1.1.0;
-    payload = λ d there. (host-wide d there).1.1.0;
-  }
-
   named : AreShapePorts p n (port_names n) (out_names n)
   named = record {
     link_in = λ o link. refl;
@@ -154,7 +137,7 @@ module _ (p : Plan) (n : ℕ) (sound : IsSound p) (below : n < tiles p) where
     names = record { kept = leaf_names; nets = net_names; ports = port_names n; outs = out_names n };
     others = out_groups p n;
     items = refl;
-    joined = joined;
+    joined = names-joined p n sound below;
     named = named;
     offered = λ d there. (host-wide d there).0;
     hears = λ d there. (host-wide d there).1.1.1.1.0;

@@ -10,6 +10,7 @@ use Rattle.noc_model.specs.Sound.{IsSound}
 use Rattle.gen_kit.specs.Shape.{head_of, tile_head, all_tiles, HasShape}
 use Rattle.gen_kit.specs.Work.{leaf_name}
 use Rattle.leaf_tie.specs.Names.{leaf_module}
+use Rattle.leaf_sound.proofs.Sounded.{leaf-sound}
 use Rattle.shape_sound.proofs.Listed.{to-numbers, to-mapped}
 use Rattle.shape_sound.proofs.Shaped.{shape-is-sound}
 use Rattle.shape_sound.proofs.Top.{leaf-apart}
@@ -43,7 +44,8 @@ all-hold p sound n l below e =
     subst (HoldsTile p n (text_sizes p)) is (held p n sound below)
 
 pub plan-is-right : PlanIsRight
-plan-is-right p sound leaves =
+plan-is-right p sound =
     right-together p (text_sizes p) (design_module p) sound (sizes-fit p sound)
-    (shape-is-sound p (design_module p) sound (its-shape p) (to-mapped IsSoundLeaf (leaf_module p) (all_tiles p) (to-numbers (λ n. IsSoundLeaf (leaf_module p n)) (tiles p) (λ n. n) leaves)))
+    (shape-is-sound p (design_module p) sound (its-shape p) (to-mapped IsSoundLeaf (leaf_module p) (all_tiles p)
+    (to-numbers (λ n. IsSoundLeaf (leaf_module p n)) (tiles p) (λ n. n) (λ n below. leaf-sound p n sound below))))
     (its-shape p) (all-hold p sound)

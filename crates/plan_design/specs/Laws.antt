@@ -1,6 +1,5 @@
 -- What the laws say.
 use Rattle.std.specs.Prelude.{ℕ, ◌<◌}
-use Rattle.vl_model.specs.Rules.{IsSoundLeaf}
 use Rattle.noc_model.specs.Plan.{Plan, tiles}
 use Rattle.noc_model.specs.Sound.{IsSound}
 use Rattle.gen_kit.specs.Right.{IsRightDesign}
@@ -16,7 +15,7 @@ SizesFit = (p : Plan) → IsSound p → FitsPlan p (text_sizes p)
 abbrev pub LeafHolds : Type 0
 LeafHolds = (p : Plan) (n : ℕ) → IsSound p → n < tiles p → HoldsTile p n (text_sizes p) (leaf_module p n)
 
--- The design of a plan is right, where its leaves are sound by themselves.
+-- The design of a plan is right: in every run, for every first content of memories and all inputs, each domain's outputs
+-- in each cycle are those of a network that holds this domain alone.
 abbrev pub PlanIsRight : Type 0
-PlanIsRight = (p : Plan) → IsSound p → ((n : ℕ) → n < tiles p → IsSoundLeaf (leaf_module p n))
-    → IsRightDesign p (design_module p)
+PlanIsRight = (p : Plan) → IsSound p → IsRightDesign p (design_module p)

@@ -12,7 +12,7 @@ pub fn leaf_holds()
     ensures { LeafHolds }
 {}
 
-/// The design of a plan is right, where its leaves are sound by themselves.
+/// The design of a plan is right.
 pub fn plan_is_right()
     ensures { PlanIsRight }
 {}
