@@ -6,8 +6,8 @@ use Rattle.noc_model.specs.Place.{neighbour}
 use Rattle.noc_model.specs.Sound.{IsSound}
 use Rattle.flit_word.specs.Words.{dest_bits, channel_bits, flit_bits}
 use Rattle.leaf_tie.specs.Tie.{HasLink}
-use Rattle.leaf_tie.specs.Glue.{has_port}
-use Rattle.leaf_tie.specs.Whole.{each_group, domain_groups, slot_groups, shared_groups}
+use Rattle.leaf_tie.specs.Glue.{has_port, word_group, link_push, pop_of}
+use Rattle.leaf_tie.specs.Whole.{each_group, domain_groups, slot_groups, shared_groups, channel_groups}
 use Rattle.leaf_tie.specs.Names.{leaf_names, net_names, port_names, credit_base, leaf_sizes, inner_groups}
 use Rattle.leaf_sound.proofs.Inner.{few-channels}
 use Rattle.leaf_sound.proofs.Domain as facts
@@ -17,26 +17,29 @@ use Rattle.leaf_sound.proofs.SharedItems.{slots-good, shared-good}
 use Rattle.leaf_sound.proofs.DomainItems as before
 use Rattle.leaf_sound.proofs.SwitchItems as switched
 use Rattle.leaf_sound.proofs.LinkItems as linked
+use Rattle.leaf_sound.proofs.Ranked.{no-local}
+use Rattle.leaf_tie.proofs.Sized.{out-link}
+use Rattle.leaf_tie.specs.Buffers.{buffer_group}
 
 module _ (p : Plan) (n : ℕ) (sound : IsSound p) (inside : n < tiles p) where
   abbrev lines : List Line
   lines = ls p n sound inside
 
   module _ (d : ℕ) (there : d < length p.domains) where
-    channel-good : (o : ℕ) (link : HasLink p n o) (x : ℕ) → x < link_channels p d → GoodGroups lines (Rattle.leaf_tie.specs.Whole.channel_groups p d leaf_names net_names (port_names n) (credit_base p) (leaf_sizes p) o x)
-    channel-good zero link x less = absurd (Rattle.leaf_sound.proofs.Ranked.no-local p n link.1)
+    channel-good : (o : ℕ) (link : HasLink p n o) (x : ℕ) → x < link_channels p d → GoodGroups lines (channel_groups p d leaf_names net_names (port_names n) (credit_base p) (leaf_sizes p) o x)
+    channel-good zero link x less = absurd (no-local p n link.1)
     channel-good (suc o) link x less =
-        let outs = Rattle.leaf_tie.proofs.Sized.out-link p d (suc o) (few-channels p d sound there).0 (λ e. omega arith) in
+        let outs = out-link p d (suc o) (few-channels p d sound there).0 (λ e. omega arith) in
         group-next lines (good-nil lines) (switched.on-good p n sound inside d there (suc o) x (facts.on p n sound inside d there (suc o) link x less) link.0 link.1 (omega (arith, outs, less))) (good-nil lines)
         (group-next lines (reg-next lines (facts.credits p n sound inside d there (suc o) link x less) (good-nil lines)) (nets-nil lines) (linked.credit-good p n sound inside d there (suc o) link x less) (no-groups lines))
 
-    word-good : (o : ℕ) (link : HasLink p n o) → GoodNets lines (Rattle.leaf_tie.specs.Glue.word_group p n leaf_names net_names (dest_bits p) (flit_bits p) (channel_bits p) d o).nets
-    word-good zero link = absurd (Rattle.leaf_sound.proofs.Ranked.no-local p n link.1)
+    word-good : (o : ℕ) (link : HasLink p n o) → GoodNets lines (word_group p n leaf_names net_names (dest_bits p) (flit_bits p) (channel_bits p) d o).nets
+    word-good zero link = absurd (no-local p n link.1)
     word-good (suc o) link = linked.word-good p n sound inside d there o link
 
-    link-buffers : (q m : ℕ) → q < ports p → neighbour p n q ≡ Some m → GoodGroups lines (each_group (link_channels p d) (λ c. Rattle.leaf_tie.specs.Buffers.buffer_group (leaf_names.buffer d q c) (leaf_sizes p)
-        (Rattle.leaf_tie.specs.Glue.link_push p leaf_names (port_names n) (flit_bits p) (channel_bits p) d q m c) (Rattle.leaf_tie.specs.Glue.pop_of p net_names d q c) ∷ []))
-    link-buffers zero m low e = absurd (Rattle.leaf_sound.proofs.Ranked.no-local p n (ap is_some e))
+    link-buffers : (q m : ℕ) → q < ports p → neighbour p n q ≡ Some m → GoodGroups lines (each_group (link_channels p d) (λ c. buffer_group (leaf_names.buffer d q c) (leaf_sizes p)
+        (link_push p leaf_names (port_names n) (flit_bits p) (channel_bits p) d q m c) (pop_of p net_names d q c) ∷ []))
+    link-buffers zero m low e = absurd (no-local p n (ap is_some e))
     link-buffers (suc q) m low e =
         groups-each lines (link_channels p d) (λ c less. group-next lines (linked.link-buffer-heads p n sound inside d there q m c low e less) (linked.link-buffer-nets p n sound inside d there q m c low e less) (good-nil lines) (no-groups lines))
 

@@ -12,19 +12,20 @@ use Rattle.gen_kit.specs.Families.{in_bits, or_upto}
 use Rattle.gen_kit.specs.Masks.{mask}
 use Rattle.gen_kit.specs.Rotate.{is_empty, least_member, pointer_moves}
 use Rattle.gen_kit.proofs.Sets.{mask-lt}
-use Rattle.leaf_tie.specs.Alloc.{AllocSize, class_start, out_count, class_nets, class_number, asks_class, taken_nets, taken_parts, alloc_group, in_class}
+use Rattle.leaf_tie.specs.Alloc.{AllocSize, class_start, out_count, class_nets, class_number, asks_class, taken_nets, taken_parts, alloc_group, in_class, active_move}
 use Rattle.leaf_tie.specs.Tie.{alloc_size}
 use Rattle.leaf_tie.specs.Glue.{high, has_port, placed, place_bits, front_bits, filled_group, tails_group, led_group}
-use Rattle.leaf_tie.specs.Names.{leaf_names, net_names, port_names, credit_base, leaf_sizes}
-use Rattle.leaf_tie.proofs.Sized.{high-is, place_count-is}
+use Rattle.leaf_tie.specs.Names.{leaf_names, net_names, port_names, credit_base, leaf_sizes, buffer_tag}
+use Rattle.leaf_tie.proofs.Sized.{high-is, place_count-is, in_few}
 use Rattle.leaf_sound.proofs.Ranked.{at}
 use Rattle.leaf_sound.proofs.Inner.{few-channels, few-links, few-ports}
-use Rattle.leaf_sound.proofs.Typed.{Net, Is, net-is, number-is, bit-is, part-is, not-is, two-is, choose-is, none-are, next-are, cat-is, deeper, wide-as, or-is, row-is, empty-is}
+use Rattle.leaf_sound.proofs.Typed.{Net, Is, net-is, number-is, bit-is, part-is, not-is, two-is, choose-is, none-are, next-are, cat-is, deeper, wide-as, or-is, row-is, empty-is, Are}
 use Rattle.leaf_sound.proofs.Walk.{May, Any}
 use Rattle.leaf_sound.proofs.Domain as facts
 use Rattle.leaf_sound.proofs.Domain.{Wire, ls, by-register, by-rank, reg-in, wire-in}
 use Rattle.leaf_sound.proofs.Items.{Good, GoodNets, good-nil, nets-nil, net-next, reg-next, clocked-next, good-join, good-each, nets-join, nets-each}
 use Rattle.leaf_sound.proofs.SharedItems.{pow-pos, two-more}
+use Rattle.leaf_tie.proofs.Allocated.{inside as class-inside}
 
 module _ (lines : List Line) (P : Name → Type 0) where
   -- the least member, what stands behind a member, and the choice among the upper requests
@@ -91,11 +92,11 @@ module _ (p : Plan) (n : ℕ) (sound : IsSound p) (inside : n < tiles p) (d : �
       (λ port c low has less. let b = facts.buffer p n sound inside d there port c low has less in
       not-is lines (May lines (net_names.filled d)) (wire-in lines (facts.filled p n sound inside d there) b.empty (low-rank port c low less)))
     where
-      low-rank : (port c : ℕ) → port < ports p → c < in_channels p d port → 2048 * Rattle.leaf_tie.specs.Names.buffer_tag d port c + 2 < at d 0 0 + 0 + 1
+      low-rank : (port c : ℕ) → port < ports p → c < in_channels p d port → 2048 * buffer_tag d port c + 2 < at d 0 0 + 0 + 1
       low-rank port c low less =
           let few = few-ports p sound in
           let some = some-links in
-          let top = Rattle.leaf_tie.proofs.Sized.in_few p d port in
+          let top = in_few p d port in
           let most = some.1 in
           let tag = facts.low-tag p n sound inside d there port c (omega (arith, few, low)) (omega (arith, top, most, less)) in
           omega (arith, tag)
@@ -104,11 +105,11 @@ module _ (p : Plan) (n : ℕ) (sound : IsSound p) (inside : n < tiles p) (d : �
   filled-good = net-next lines (facts.filled p n sound inside d there) filled-is (omega arith) (nets-nil lines)
 
   -- which buffer's name is lower than any net's
-  buffer-low : (port c : ℕ) → port < ports p → c < in_channels p d port → Rattle.leaf_tie.specs.Names.buffer_tag d port c < 1024
+  buffer-low : (port c : ℕ) → port < ports p → c < in_channels p d port → buffer_tag d port c < 1024
   buffer-low port c low less =
       let few = few-ports p sound in
       let some = some-links in
-      let top = Rattle.leaf_tie.proofs.Sized.in_few p d port in
+      let top = in_few p d port in
       let most = some.1 in
       facts.low-tag p n sound inside d there port c (omega (arith, few, low)) (omega (arith, top, most, less))
 
@@ -117,7 +118,7 @@ module _ (p : Plan) (n : ℕ) (sound : IsSound p) (inside : n < tiles p) (d : �
   fronts-is t h r k x far le =
       place-bits-is (May lines t) (λ port c. bit (leaf_names.buffer d port c).front k) 1 (omega arith)
       (λ port c low has less. let b = facts.buffer p n sound inside d there port c low has less in let tag = buffer-low port c low less in
-      bit-is lines (May lines t) k b.front.its (by-rank lines t (leaf_names.buffer d port c).front r (2048 * Rattle.leaf_tie.specs.Names.buffer_tag d port c + 1) x b.front.at_rank (omega (arith, tag, far))) le)
+      bit-is lines (May lines t) k b.front.its (by-rank lines t (leaf_names.buffer d port c).front r (2048 * buffer_tag d port c + 1) x b.front.at_rank (omega (arith, tag, far))) le)
 
   pub tails-good : GoodNets lines (tails_group p n leaf_names net_names (dest_bits p) d).nets
   tails-good =
@@ -146,7 +147,7 @@ module _ (p : Plan) (n : ℕ) (sound : IsSound p) (inside : n < tiles p) (d : �
     few-size = facts.few-size p n sound inside d there o low has
 
     class-part : (c : ℕ) → c < (alloc_size p d o).last + 1 → class_start (alloc_size p d o) c + (alloc_size p d o).size ≤ out_count (alloc_size p d o) - 1
-    class-part c less = let all = Rattle.leaf_tie.proofs.Allocated.inside (alloc_size p d o) c (omega arith) in omega (arith, all)
+    class-part c less = let all = class-inside (alloc_size p d o) c (omega arith) in omega (arith, all)
 
     free-is : (c : ℕ) → c < (alloc_size p d o).last + 1 → Is lines (May lines ((leaf_names.alloc d o).free c)) (not (part (leaf_names.alloc d o).held (class_start (alloc_size p d o) c + (alloc_size p d o).size) (class_start (alloc_size p d o) c))) ((alloc_size p d o).size + 1) 2
     free-is c less =
@@ -206,10 +207,10 @@ module _ (p : Plan) (n : ℕ) (sound : IsSound p) (inside : n < tiles p) (d : �
 
     -- the moves
 
-    taken-are : (c : ℕ) → c ≤ (alloc_size p d o).last → Rattle.leaf_sound.proofs.Typed.Are lines (Any lines) (taken_parts (leaf_names.alloc d o) c) ((c + 1) * ((alloc_size p d o).size + 1)) 1
-    taken-are zero le = subst (λ w. Rattle.leaf_sound.proofs.Typed.Are lines (Any lines) (taken_parts (leaf_names.alloc d o) 0) w 1) (omega arith) (next-are lines (Any lines) (net-is lines (Any lines) (facts.taken p n sound inside d there o low has 0 (omega arith)).its tt) (none-are lines (Any lines) 1))
+    taken-are : (c : ℕ) → c ≤ (alloc_size p d o).last → Are lines (Any lines) (taken_parts (leaf_names.alloc d o) c) ((c + 1) * ((alloc_size p d o).size + 1)) 1
+    taken-are zero le = subst (λ w. Are lines (Any lines) (taken_parts (leaf_names.alloc d o) 0) w 1) (omega arith) (next-are lines (Any lines) (net-is lines (Any lines) (facts.taken p n sound inside d there o low has 0 (omega arith)).its tt) (none-are lines (Any lines) 1))
     taken-are (suc c) le =
-        subst (λ w. Rattle.leaf_sound.proofs.Typed.Are lines (Any lines) (taken_parts (leaf_names.alloc d o) (suc c)) w 1) (let e : (alloc_size p d o).size + 1 + (c + 1) * ((alloc_size p d o).size + 1) ≡ (suc c + 1) * ((alloc_size p d o).size + 1) = omega arith in e)
+        subst (λ w. Are lines (Any lines) (taken_parts (leaf_names.alloc d o) (suc c)) w 1) (let e : (alloc_size p d o).size + 1 + (c + 1) * ((alloc_size p d o).size + 1) ≡ (suc c + 1) * ((alloc_size p d o).size + 1) = omega arith in e)
         (next-are lines (Any lines) (net-is lines (Any lines) (facts.taken p n sound inside d there o low has (suc c) (omega arith)).its tt) (taken-are c (omega arith)))
 
     few-outs : (1 ≤ out_count (alloc_size p d o)) × (out_count (alloc_size p d o) ≤ 8)
@@ -222,9 +223,9 @@ module _ (p : Plan) (n : ℕ) (sound : IsSound p) (inside : n < tiles p) (d : �
         let same : (suc c + 1) * ((alloc_size p d o).size + 1) ≡ out_count (alloc_size p d o) - 1 + 1 = ap (λ c. (c + 1) * ((alloc_size p d o).size + 1)) e ∙ omega (arith, low_outs) in
         wide-as lines (Any lines) same (cat-is lines (Any lines) (taken-are (suc c) (omega (arith, e))) (omega (arith, same)) (omega (arith, same, top)))
 
-    active-good : (c j : ℕ) → c < (alloc_size p d o).last + 1 → j < (alloc_size p d o).size + 1 → Good lines (Rattle.leaf_tie.specs.Alloc.active_move (leaf_names.alloc d o) (alloc_size p d o) c j)
+    active-good : (c j : ℕ) → c < (alloc_size p d o).last + 1 → j < (alloc_size p d o).size + 1 → Good lines (active_move (leaf_names.alloc d o) (alloc_size p d o) c j)
     active-good c j less below =
-        let all = Rattle.leaf_tie.proofs.Allocated.inside (alloc_size p d o) c (omega arith) in
+        let all = class-inside (alloc_size p d o) c (omega arith) in
         let m = facts.active p n sound inside d there o low has (class_start (alloc_size p d o) c + j) (omega (arith, all, below)) in
         let few = few-high in
         clocked-next lines m

@@ -16,7 +16,7 @@ use Rattle.leaf_tie.specs.Tie.{HasPort}
 use Rattle.leaf_tie.specs.Glue.{has_port}
 use Rattle.leaf_tie.specs.Names.{inner_groups, out_groups, leaf_module}
 use Rattle.leaf_tie.proofs.Members.{Member, in-front, its-heads, its-nets}
-use Rattle.leaf_sound.proofs.Named.{given, given-append, not-found, given-once, all-map-to}
+use Rattle.leaf_sound.proofs.Named.{given, given-append, not-found, given-once, all-map-to, gives}
 
 -- what a line declares is found among these lines
 abbrev pub LineFound : List Line → Option Declared → Type 0
@@ -27,7 +27,7 @@ found-here : (before rest : List Line) (l : Line) (d : Declared) → declared l 
 found-here [] rest l d e none = ap (λ o. found o d.name (lookup rest d.name)) e ∙ ap (λ b. if b then Some d else lookup rest d.name) (itself d.name)
 found-here (b ∷ before) rest l d e none = go (declared b) (found-here before rest l d e) none
   where
-    go : (o : Option Declared) → (given d.name before ≡ 0 → lookup (before ++ l ∷ rest) d.name ≡ Some d) → Rattle.leaf_sound.proofs.Named.gives d.name o + given d.name before ≡ 0 → found o d.name (lookup (before ++ l ∷ rest) d.name) ≡ Some d
+    go : (o : Option Declared) → (given d.name before ≡ 0 → lookup (before ++ l ∷ rest) d.name ≡ Some d) → gives d.name o + given d.name before ≡ 0 → found o d.name (lookup (before ++ l ∷ rest) d.name) ≡ Some d
     go None more none = more (omega arith)
     go (Some y) more none = by (bytes_eq d.name y.name) refl
       where
@@ -44,7 +44,7 @@ all-found all before (l ∷ ls) once e = (go (declared l) refl, all-found all (b
     go (Some d) is =
         ap (λ z. lookup z d.name) e
         ∙ found-here before ls l d is (let split = given-append d.name before (l ∷ ls) in let most = once d.name in let same : given d.name all ≡ given d.name (before ++ l ∷ ls) = ap (given d.name) e in
-        let its : Rattle.leaf_sound.proofs.Named.gives d.name (declared l) ≡ one_if (bytes_eq d.name d.name) = ap (Rattle.leaf_sound.proofs.Named.gives d.name) is in let one = ap one_if (itself d.name) in omega (arith, split, most, same, its, one))
+        let its : gives d.name (declared l) ≡ one_if (bytes_eq d.name d.name) = ap (gives d.name) is in let one = ap one_if (itself d.name) in omega (arith, split, most, same, its, one))
 
 -- the same of an item and of a port
 abbrev pub ItemFound : List Line → Item → Type 0

@@ -21,6 +21,9 @@ use Rattle.leaf_tie.specs.Names.{leaf_names, net_names, port_names, credit_base,
 use Rattle.leaf_sound.proofs.Evened.{declares, part-declares}
 use Rattle.leaf_sound.proofs.Ranked.{no-local}
 use Rattle.leaf_sound.proofs.Priors.{priors-nil, priors-wire, priors-reg, priors-join, priors-each, buffer-priors, GroupsPrior, no-groups, group-next, group-then, groups-join, groups-then, groups-each, groups-if, groups-neighbour}
+use Rattle.leaf_tie.specs.Buffers.{buffer_group}
+use Rattle.leaf_tie.specs.Switch.{switch_group}
+use Rattle.gen_kit.specs.Rotate.{pointer_moves}
 
 -- what one group list declares among many
 each-declares : (x : Name) (k : ℕ) (f : ℕ → List Group) (i : ℕ) → i < k → declares x (flat_map (λ (g : Group). g.heads) (f i)) ≤ declares x (flat_map (λ (g : Group). g.heads) (each_group k f))
@@ -38,7 +41,7 @@ module _ (p : Plan) (n : ℕ) where
   -- ---- heads
 
   module _ (W : Name → Type 0) (stored : (q : ℕ) → HasLink p n q → W (net_names.stored q)) (d : ℕ) where
-    link-buffers : (q m : ℕ) → q < ports p → neighbour p n q ≡ Some m → GroupsPrior W (each_group (link_channels p d) (λ c. Rattle.leaf_tie.specs.Buffers.buffer_group (leaf_names.buffer d q c) (leaf_sizes p) (link_push p leaf_names (port_names n) (flit_bits p) (channel_bits p) d q m c) (pop_of p net_names d q c) ∷ []))
+    link-buffers : (q m : ℕ) → q < ports p → neighbour p n q ≡ Some m → GroupsPrior W (each_group (link_channels p d) (λ c. buffer_group (leaf_names.buffer d q c) (leaf_sizes p) (link_push p leaf_names (port_names n) (flit_bits p) (channel_bits p) d q m c) (pop_of p net_names d q c) ∷ []))
     link-buffers zero m low e = absurd (no-local p n (ap is_some e))
     link-buffers (suc q) m low e = groups-each (link_channels p d) (λ c less. group-next (buffer-priors (leaf_names.buffer d (suc q) c) (leaf_sizes p) (link_push p leaf_names (port_names n) (flit_bits p) (channel_bits p) d (suc q) m c) (pop_of p net_names d (suc q) c) (stored (suc q) (low, ap is_some e))) no-groups)
 
@@ -122,11 +125,11 @@ module _ (p : Plan) (n : ℕ) where
   alloc-moved : (d o : ℕ) → AllMove (alloc_group p d n o (leaf_names.alloc d o) (alloc_size p d o)).moves
   alloc-moved d o = (tt, (tt, (tt, family ((alloc_size p d o).last + 1) (λ k. for_each ((alloc_size p d o).size + 1) (active_move (leaf_names.alloc d o) (alloc_size p d o) k)) (λ k. family ((alloc_size p d o).size + 1) (active_move (leaf_names.alloc d o) (alloc_size p d o) k) (λ j. (tt, tt))))))
 
-  switch-moved : (d : ℕ) → AllMove (Rattle.leaf_tie.specs.Switch.switch_group (switch_names leaf_names net_names d) (switch_size p d)).moves
+  switch-moved : (d : ℕ) → AllMove (switch_group (switch_names leaf_names net_names d) (switch_size p d)).moves
   switch-moved d =
-      all-join IsMove (for_each (ports p - 1 + 1) (λ o. Rattle.gen_kit.specs.Rotate.pointer_moves (leaf_names.switch d o).pointer (leaf_names.switch d o).winner (ports p - 1))) (for_each (ports p - 1 + 1) (λ o. Rattle.gen_kit.specs.Rotate.pointer_moves (leaf_names.turn d o).pointer (net_names.granted d o) (link_channels p d - 1)))
-      (family (ports p - 1 + 1) (λ o. Rattle.gen_kit.specs.Rotate.pointer_moves (leaf_names.switch d o).pointer (leaf_names.switch d o).winner (ports p - 1)) (λ o. (tt, tt)))
-      (family (ports p - 1 + 1) (λ o. Rattle.gen_kit.specs.Rotate.pointer_moves (leaf_names.turn d o).pointer (net_names.granted d o) (link_channels p d - 1)) (λ o. (tt, tt)))
+      all-join IsMove (for_each (ports p - 1 + 1) (λ o. pointer_moves (leaf_names.switch d o).pointer (leaf_names.switch d o).winner (ports p - 1))) (for_each (ports p - 1 + 1) (λ o. pointer_moves (leaf_names.turn d o).pointer (net_names.granted d o) (link_channels p d - 1)))
+      (family (ports p - 1 + 1) (λ o. pointer_moves (leaf_names.switch d o).pointer (leaf_names.switch d o).winner (ports p - 1)) (λ o. (tt, tt)))
+      (family (ports p - 1 + 1) (λ o. pointer_moves (leaf_names.turn d o).pointer (net_names.granted d o) (link_channels p d - 1)) (λ o. (tt, tt)))
 
   link-moved : (q : ℕ) → AllMove (link_group (link_names p n leaf_names net_names q) (channel_bits p + flit_bits p) (length p.domains) (p.stages - 1)).moves
   link-moved q = (tt, family (p.stages - 1) (λ i. clocked (leaf_names.row q (i + 1)) (record { width = channel_bits p + flit_bits p + 1; value = 0 }) (net (leaf_names.row q i)) ∷ []) (λ i. (tt, tt)))

@@ -7,7 +7,7 @@ use Rattle.vl_model.specs.Meaning.{one_if}
 use Rattle.vl_model.specs.declared.kind.Kind.TheVariants.{Inner, Register}
 use Rattle.vl_model.specs.Lines.{Line}
 use Rattle.vl_model.proofs.Together.{all-join}
-use Rattle.vl_model.proofs.Settling.{itself}
+use Rattle.vl_model.proofs.Settling.{itself, one-name}
 use Rattle.gen_kit.specs.Families.{for_each}
 use Rattle.gen_kit.specs.Groups.{Group}
 use Rattle.leaf_tie.specs.Whole.{each_group, to_neighbour}
@@ -42,7 +42,7 @@ backed-drives m [] b some = absurd (omega arith)
 backed-drives m (wire h n ∷ is) b some = go (bytes_eq m n) refl (backed-drives m is b.1)
   where
     go : (c : Bool) → bytes_eq m n ≡ c → (1 ≤ declares m is → 1 ≤ driven m is) → 1 ≤ 0 + driven m is
-    go true e rest = (let is_one : 1 ≤ driven n is = b.0 in let same : driven m is ≡ driven n is = ap (λ x. driven x is) (Rattle.vl_model.proofs.Settling.one-name m n e) in omega (arith, is_one, same))
+    go true e rest = (let is_one : 1 ≤ driven n is = b.0 in let same : driven m is ≡ driven n is = ap (λ x. driven x is) (one-name m n e) in omega (arith, is_one, same))
     go false e rest = (let none = ap one_if e in let more = rest (omega (arith, none, some)) in omega (arith, more))
 backed-drives m (assign n e ∷ is) b some = let rest = backed-drives m is b some in omega (arith, rest)
 backed-drives m (reg h n ∷ is) b some = absurd b

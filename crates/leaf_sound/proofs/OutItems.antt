@@ -1,5 +1,5 @@
 -- The items that drive the output ports of a leaf are right: they read registers alone.
-use Rattle.std.proofs.Common.{◌≡◌, ◌≢◌, ℕ, zero, suc, ◌+◌, ◌-◌, ◌*◌, ◌^◌, ◌<◌, ◌≤◌, ◌⊎◌, inl, inr, Bool, true, false, List, [], ◌∷◌, ◌++◌, length, refl, sym, ◌∙◌, ap, subst, arith, Option, Some, None, is_some, nat_lt, nat_le, min, codes, if◌then◌else◌, flat_map, slice_get}
+use Rattle.std.proofs.Common.{◌≡◌, ◌≢◌, ℕ, zero, suc, ◌+◌, ◌-◌, ◌*◌, ◌^◌, ◌<◌, ◌≤◌, ◌⊎◌, inl, inr, Bool, true, false, List, [], ◌∷◌, ◌++◌, length, refl, sym, ◌∙◌, ap, subst, arith, Option, Some, None, is_some, nat_lt, nat_le, min, codes, if◌then◌else◌, flat_map, slice_get, map}
 use Rattle.std.specs.List.{AllByRecursion}
 use Rattle.std.proofs.lemmas.Bool.Decides.{nat_tests}
 use Rattle.vl_tree.specs.declared.tree.Op.TheVariants.{Or}
@@ -33,6 +33,7 @@ use Rattle.leaf_sound.proofs.Shared as shared
 use Rattle.leaf_sound.proofs.Shared.{of-host, of-link}
 use Rattle.leaf_sound.proofs.LinkItems as linked
 use Rattle.leaf_sound.proofs.Items.{Backed, backed-join}
+use Rattle.leaf_sound.proofs.Rising.{flat-append}
 
 -- an assign to an output port, right among the lines
 abbrev pub OutIs : List Line → Item → Type 0
@@ -105,7 +106,7 @@ module _ (p : Plan) (n : ℕ) (sound : IsSound p) (inside : n < tiles p) where
     low-q : q < 2 ^ 64
     low-q = let few = few-ports p sound in let less = link.0 in omega (arith, few, less)
 
-    link-ports : AllByRecursion (λ x. LineFound lines (declared (given_lines.port x))) (Rattle.std.proofs.Common.map (λ (t : Tied). t.port) (link_ties p n q (Some (shared.some-m p n sound inside q link).0)))
+    link-ports : AllByRecursion (λ x. LineFound lines (declared (given_lines.port x))) (map (λ (t : Tied). t.port) (link_ties p n q (Some (shared.some-m p n sound inside q link).0)))
     link-ports = of-link p n (λ x. LineFound lines (declared (given_lines.port x))) q (shared.some-m p n sound inside q link).0 link.0 (shared.some-m p n sound inside q link).1 (ports-found p n sound inside)
 
     pulse-bit : (t : Name) (r : ℕ) → r < credit_bits p → Is lines (May lines t) (bit (leaf_names.pulse (credit_domain p r) q) (credit_channel p r)) 1 1
@@ -136,8 +137,8 @@ module _ (p : Plan) (n : ℕ) (sound : IsSound p) (inside : n < tiles p) where
     second-out above =
         let far : 64 < credit_bits p = grind (arith, nat_tests, above) in
         let few = shared.few-credits p n sound inside in
-        let more : AllByRecursion (λ x. LineFound lines (declared (given_lines.port x))) (Rattle.std.proofs.Common.map (λ (t : Tied). t.port) (second_ties p n q (shared.some-m p n sound inside q link).0 (opposite q))) =
-        subst (λ b. AllByRecursion (λ x. LineFound lines (declared (given_lines.port x))) (Rattle.std.proofs.Common.map (λ (t : Tied). t.port) (if b then second_ties p n q (shared.some-m p n sound inside q link).0 (opposite q) else []))) above link-ports.1.1.1.1 in (
+        let more : AllByRecursion (λ x. LineFound lines (declared (given_lines.port x))) (map (λ (t : Tied). t.port) (second_ties p n q (shared.some-m p n sound inside q link).0 (opposite q))) =
+        subst (λ b. AllByRecursion (λ x. LineFound lines (declared (given_lines.port x))) (map (λ (t : Tied). t.port) (if b then second_ties p n q (shared.some-m p n sound inside q link).0 (opposite q) else []))) above link-ports.1.1.1.1 in (
           out-is (out-net more.1.0 (omega (arith, few)) (triple-plain 99 111 n q refl refl small low-q))
               (wide-as lines (May lines (name_with (codes "co") (n ∷ q ∷ 1 ∷ []))) (let e : (credit_bits p - 64 - 1 + 1) * 1 ≡ credit_bits p - 64 - 1 + 1 = omega arith in e)
               (row-is lines (May lines (name_with (codes "co") (n ∷ q ∷ 1 ∷ []))) (credit_bits p - 64 - 1) 1 1 (λ k le. pulse-bit (name_with (codes "co") (n ∷ q ∷ 1 ∷ [])) (64 + k) (omega (arith, far, le))) (omega arith) (omega (arith, far, few)))) (omega arith),
@@ -192,7 +193,7 @@ module _ (p : Plan) (n : ℕ) (sound : IsSound p) (inside : n < tiles p) where
   outs-each : (k : ℕ) (f : ℕ → List Group) → ((i : ℕ) → i < k → AllByRecursion (OutIs lines) (flat_map (λ (g : Group). g.nets) (f i))) → AllByRecursion (OutIs lines) (flat_map (λ (g : Group). g.nets) (each_group k f))
   outs-each zero f h = tt
   outs-each (suc k) f h =
-      subst (AllByRecursion (OutIs lines)) (sym (Rattle.leaf_sound.proofs.Rising.flat-append (λ (g : Group). g.nets) (each_group k f) (f k)))
+      subst (AllByRecursion (OutIs lines)) (sym (flat-append (λ (g : Group). g.nets) (each_group k f) (f k)))
       (all-join (OutIs lines) (flat_map (λ (g : Group). g.nets) (each_group k f)) (flat_map (λ (g : Group). g.nets) (f k)) (outs-each k f (λ i less. h i (omega arith))) (h k (omega arith)))
 
   outs-if : (b : Bool) (xs : List Group) → (b ≡ true → AllByRecursion (OutIs lines) (flat_map (λ (g : Group). g.nets) xs)) → AllByRecursion (OutIs lines) (flat_map (λ (g : Group). g.nets) (if b then xs else []))
@@ -201,7 +202,7 @@ module _ (p : Plan) (n : ℕ) (sound : IsSound p) (inside : n < tiles p) where
 
   pub outs-good : AllByRecursion (OutIs lines) (flat_map (λ (g : Group). g.nets) (out_groups p n))
   outs-good =
-      subst (AllByRecursion (OutIs lines)) (sym (Rattle.leaf_sound.proofs.Rising.flat-append (λ (g : Group). g.nets) (each_group (ports p) (λ o. if is_some (neighbour p n o) then link_outs p n o else [])) (each_group (length p.domains) (λ d. if hosts p n d then local_out_group p leaf_names net_names (out_names n) (leaf_sizes p) (dest_bits p) d ∷ [] else []))))
+      subst (AllByRecursion (OutIs lines)) (sym (flat-append (λ (g : Group). g.nets) (each_group (ports p) (λ o. if is_some (neighbour p n o) then link_outs p n o else [])) (each_group (length p.domains) (λ d. if hosts p n d then local_out_group p leaf_names net_names (out_names n) (leaf_sizes p) (dest_bits p) d ∷ [] else []))))
       (all-join (OutIs lines) _ _
       (outs-each (ports p) (λ o. if is_some (neighbour p n o) then link_outs p n o else []) (λ q low. outs-if (is_some (neighbour p n q)) (link_outs p n q) (λ some. link-outs q (low, some))))
       (outs-each (length p.domains) (λ d. if hosts p n d then local_out_group p leaf_names net_names (out_names n) (leaf_sizes p) (dest_bits p) d ∷ [] else []) (λ d there. outs-if (hosts p n d) (local_out_group p leaf_names net_names (out_names n) (leaf_sizes p) (dest_bits p) d ∷ [])
@@ -211,11 +212,11 @@ module _ (p : Plan) (n : ℕ) (sound : IsSound p) (inside : n < tiles p) where
 module _ (p : Plan) (n : ℕ) where
   backed-each : (k : ℕ) (f : ℕ → List Group) → ((i : ℕ) → Backed (flat_map (λ (g : Group). g.nets) (f i))) → Backed (flat_map (λ (g : Group). g.nets) (each_group k f))
   backed-each zero f h = tt
-  backed-each (suc k) f h = subst Backed (sym (Rattle.leaf_sound.proofs.Rising.flat-append (λ (g : Group). g.nets) (each_group k f) (f k))) (backed-join (flat_map (λ (g : Group). g.nets) (each_group k f)) (flat_map (λ (g : Group). g.nets) (f k)) (backed-each k f h) (h k))
+  backed-each (suc k) f h = subst Backed (sym (flat-append (λ (g : Group). g.nets) (each_group k f) (f k))) (backed-join (flat_map (λ (g : Group). g.nets) (each_group k f)) (flat_map (λ (g : Group). g.nets) (f k)) (backed-each k f h) (h k))
 
   pub outs-backed : Backed (flat_map (λ (g : Group). g.nets) (out_groups p n))
   outs-backed =
-      subst Backed (sym (Rattle.leaf_sound.proofs.Rising.flat-append (λ (g : Group). g.nets) (each_group (ports p) (λ o. if is_some (neighbour p n o) then link_outs p n o else [])) (each_group (length p.domains) (λ d. if hosts p n d then local_out_group p leaf_names net_names (out_names n) (leaf_sizes p) (dest_bits p) d ∷ [] else []))))
+      subst Backed (sym (flat-append (λ (g : Group). g.nets) (each_group (ports p) (λ o. if is_some (neighbour p n o) then link_outs p n o else [])) (each_group (length p.domains) (λ d. if hosts p n d then local_out_group p leaf_names net_names (out_names n) (leaf_sizes p) (dest_bits p) d ∷ [] else []))))
       (backed-join (flat_map (λ (g : Group). g.nets) (each_group (ports p) (λ o. if is_some (neighbour p n o) then link_outs p n o else []))) (flat_map (λ (g : Group). g.nets) (each_group (length p.domains) (λ d. if hosts p n d then local_out_group p leaf_names net_names (out_names n) (leaf_sizes p) (dest_bits p) d ∷ [] else [])))
       (backed-each (ports p) (λ o. if is_some (neighbour p n o) then link_outs p n o else []) (λ q. by-link q (is_some (neighbour p n q)) (nat_lt 64 (credit_bits p))))
       (backed-each (length p.domains) (λ d. if hosts p n d then local_out_group p leaf_names net_names (out_names n) (leaf_sizes p) (dest_bits p) d ∷ [] else []) (λ d. by-host d (hosts p n d))))

@@ -11,7 +11,7 @@ use Rattle.noc_model.specs.Place.{neighbour, opposite}
 use Rattle.noc_model.specs.Sound.{IsSound, IsBefore}
 use Rattle.noc_model.specs.Events.{tabulate}
 use Rattle.gen_kit.specs.Ports.{host_ports}
-use Rattle.gen_kit.specs.Shape.{Tied, host_ties, link_ties, tile_ties, tile_head, credit_bits}
+use Rattle.gen_kit.specs.Shape.{Tied, host_ties, link_ties, tile_ties, tile_head, credit_bits, second_ties}
 use Rattle.leaf_sound.proofs.Keyed.{place, two-place, three-place}
 
 -- ---- ports in rising places
@@ -142,7 +142,7 @@ module _ (p : Plan) (n : ℕ) (sound : IsSound p) (inside : n < tiles p) where
       (port-next (4096 + (32 * q + 15)) (4096 + (32 * q + 15)) (4096 + (32 * q + 16)) (4096 + 32 * suc q) (two-place 99 111 n q small low) (omega arith) (omega arith)
       (go (nat_lt 64 (credit_bits p))))))
     where
-      go : (b : Bool) → PortsRise (4096 + (32 * q + 16)) (4096 + 32 * suc q) (map (λ (t : Tied). t.port) (if b then Rattle.gen_kit.specs.Shape.second_ties p n q m (opposite q) else []))
+      go : (b : Bool) → PortsRise (4096 + (32 * q + 16)) (4096 + 32 * suc q) (map (λ (t : Tied). t.port) (if b then second_ties p n q m (opposite q) else []))
       go true =
           let low : q < 2 ^ 64 = omega arith in
           port-next (4096 + (32 * q + 16)) (4096 + (32 * q + 16)) (4096 + (32 * q + 17)) (4096 + 32 * suc q) (three-place 99 105 n q small low) (omega arith) (omega arith)

@@ -4,7 +4,7 @@ use Rattle.std.proofs.lemmas.Nat.{mul-le}
 use Rattle.vl_tree.specs.declared.tree.Op.TheVariants.{And, Or}
 use Rattle.vl_tree.specs.Values.{Name, net, cat}
 use Rattle.vl_model.specs.Lines.{Line}
-use Rattle.noc_model.specs.Plan.{Plan, tiles, ports, hosts, channels, link_channels, in_channels}
+use Rattle.noc_model.specs.Plan.{Plan, tiles, ports, hosts, channels, link_channels, in_channels, at_local}
 use Rattle.noc_model.specs.Sound.{IsSound}
 use Rattle.flit_word.specs.Words.{dest_bits}
 use Rattle.gen_kit.specs.Families.{or_upto, row_parts}
@@ -12,8 +12,8 @@ use Rattle.leaf_tie.specs.Alloc.{out_count}
 use Rattle.leaf_tie.specs.Switch.{switch_group, port_nets, output_nets, grant_nets, place_count}
 use Rattle.leaf_tie.specs.Tie.{HasLink, alloc_size}
 use Rattle.leaf_tie.specs.Glue.{switch_names, switch_size, high, out_high, has_port, able, some_active, ready_group}
-use Rattle.leaf_tie.specs.Names.{leaf_names, net_names, port_names, credit_base, leaf_sizes}
-use Rattle.leaf_tie.proofs.Sized.{high-is, place_count-is}
+use Rattle.leaf_tie.specs.Names.{leaf_names, net_names, port_names, credit_base, leaf_sizes, buffer_tag}
+use Rattle.leaf_tie.proofs.Sized.{high-is, place_count-is, out-link, in_few}
 use Rattle.leaf_sound.proofs.Ranked.{at}
 use Rattle.leaf_sound.proofs.Inner.{few-channels, few-links, few-ports}
 use Rattle.leaf_sound.proofs.Typed.{Is, net-is, number-is, bit-is, part-is, not-is, two-is, choose-is, deeper, wide-as, or-is, row-is, empty-is}
@@ -72,7 +72,7 @@ module _ (p : Plan) (n : ℕ) (sound : IsSound p) (inside : n < tiles p) (d : �
   able-is (suc o) low has w less =
       let P = May lines (net_names.ready d (suc o)) in
       let t = facts.ready p n sound inside d there (suc o) low in
-      let outs = Rattle.leaf_tie.proofs.Sized.out-link p d (suc o) (few-channels p d sound there).0 (λ e. omega arith) in
+      let outs = out-link p d (suc o) (few-channels p d sound there).0 (λ e. omega arith) in
       let c = facts.credits p n sound inside d there (suc o) (low, has) w (omega (arith, outs, less)) in
       two-is lines P And (deeper lines P 3 (omega arith) (owner-may (net_names.ready d (suc o)) (suc o) (high p d) (low, has) t))
       (not-is lines P (empty-is lines P (leaf_sizes p).lh (reg-in lines (net_names.ready d (suc o)) c) (omega arith)))
@@ -217,7 +217,7 @@ module _ (p : Plan) (n : ℕ) (sound : IsSound p) (inside : n < tiles p) (d : �
       let t = facts.flit p n sound inside d there o low has in
       let P = May lines (net_names.flit d o) in
       let dests = facts.few-dests p n sound inside in
-      let top = Rattle.leaf_tie.proofs.Sized.in_few p d o in
+      let top = in_few p d o in
       let most = some-links in let high_links = most.1 in
       let few = few-p in
       let some = in-some o in
@@ -227,7 +227,7 @@ module _ (p : Plan) (n : ℕ) (sound : IsSound p) (inside : n < tiles p) (d : �
       let g = facts.granted p n sound inside d there o (omega arith) in
       let tag = facts.low-tag p n sound inside d there o c (omega (arith, few, low)) (omega (arith, top, high_links, some, le)) in
       choose-is lines P (bit-is lines P c g.its (by-rank lines (net_names.flit d o) (net_names.granted d o) (at d 8 o + 1 + 1) (at d 6 o + 0 + 1) t g.at_rank (omega arith)) (omega (arith, top, some, le)))
-      (part-is lines P (33 + dest_bits p) 0 (34 + dest_bits p) b.front.its (by-rank lines (net_names.flit d o) (leaf_names.buffer d o c).front (at d 8 o + 1 + 1) (2048 * Rattle.leaf_tie.specs.Names.buffer_tag d o c + 1) t b.front.at_rank (omega (arith, tag))) (omega arith) (omega arith) (omega arith))
+      (part-is lines P (33 + dest_bits p) 0 (34 + dest_bits p) b.front.its (by-rank lines (net_names.flit d o) (leaf_names.buffer d o c).front (at d 8 o + 1 + 1) (2048 * buffer_tag d o c + 1) t b.front.at_rank (omega (arith, tag))) (omega arith) (omega arith) (omega arith))
       (number-is lines P (34 + dest_bits p) 0 (omega arith) (omega (arith, dests)) (pow-pos (34 + dest_bits p)))))) (omega (arith, top, high_links)) (nets-nil lines)
     where
       in-some : (o : ℕ) → 1 ≤ in_channels p d o
@@ -236,9 +236,9 @@ module _ (p : Plan) (n : ℕ) (sound : IsSound p) (inside : n < tiles p) (d : �
 
   -- ---- links
 
-  pub on-good : (o w : ℕ) (t : Wire lines (net_names.on d o w) 0 (at d (Rattle.noc_model.specs.Plan.at_local o 11 9) o + w + 1)) (low : o < ports p) → has_port p n d o ≡ true → w < out_count (alloc_size p d o) → GoodNets lines (on_group p leaf_names net_names d o w).nets
+  pub on-good : (o w : ℕ) (t : Wire lines (net_names.on d o w) 0 (at d (at_local o 11 9) o + w + 1)) (low : o < ports p) → has_port p n d o ≡ true → w < out_count (alloc_size p d o) → GoodNets lines (on_group p leaf_names net_names d o w).nets
   on-good o w t low has less = net-next lines t (some-active-is (net_names.on d o w) o w (net_names.leaves d) low has less (leaves-in t (behind o))) (omega arith) (nets-nil lines)
     where
-      behind : (o : ℕ) → at d 7 0 + 0 + 1 < at d (Rattle.noc_model.specs.Plan.at_local o 11 9) o + w + 1
+      behind : (o : ℕ) → at d 7 0 + 0 + 1 < at d (at_local o 11 9) o + w + 1
       behind zero = omega arith
       behind (suc o) = omega arith

@@ -9,7 +9,7 @@ use Rattle.vl_tree.specs.Tokens.{is_name}
 use Rattle.vl_tree.specs.Plain.{plain_expr, plain_exprs}
 use Rattle.vl_model.specs.Meaning.{Use, op_width, width_of, widths_of, agrees, all_agree, nets_of, parts_nets, uses_of, parts_uses}
 use Rattle.vl_model.specs.declared.kind.Kind.{Kind}
-use Rattle.vl_model.specs.Lines.{Line, Declared, lookup, is_net, is_memory, net_bits, widths, word_count}
+use Rattle.vl_model.specs.Lines.{Line, Declared, lookup, is_net, is_memory, net_bits, widths, word_count, kind_passes}
 use Rattle.vl_model.specs.Rules.{is_kind}
 use Rattle.vl_model.proofs.Together.{all-join}
 use Rattle.gen_kit.specs.Families.{in_bits, or_upto, row_parts}
@@ -48,7 +48,7 @@ module _ (lines : List Line) where
   net-wide {c} {n} {h} x = ap net_bits x.found ∙ ap (λ b. if b then h + 1 else 0) x.is_its
 
   pub net-known : {c : Kind} {n : Name} {h : ℕ} → Net lines c n h → is_kind is_net lines n ≡ true
-  net-known {c} {n} {h} x = ap (Rattle.vl_model.specs.Lines.kind_passes is_net) x.found ∙ x.is_its
+  net-known {c} {n} {h} x = ap (kind_passes is_net) x.found ∙ x.is_its
 
   -- an expression of k bits and at most d levels
   pub record Is (P : Name → Type 0) (e : Expr) (k d : ℕ) : Type 0 where

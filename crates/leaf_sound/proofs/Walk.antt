@@ -2,7 +2,7 @@
 use Rattle.std.proofs.Common.{◌≡◌, ℕ, ◌+◌, ◌^◌, ◌<◌, ◌≤◌, ◌⊎◌, Bool, true, false, ◌&&◌, List, [], ◌∷◌, ◌++◌, map, refl, sym, ◌∙◌, ap, subst, arith, Option, Some, None, bytes_eq, nat_lt, ◌==◌, append_assoc, if◌then◌else◌}
 use Rattle.std.specs.Prelude.{not}
 use Rattle.std.specs.List.{AllByRecursion, list_any, list_all}
-use Rattle.std.proofs.lemmas.Bool.{and_from, true≢false}
+use Rattle.std.proofs.lemmas.Bool.{and_from, true≢false, and_parts}
 use Rattle.std.proofs.lemmas.Bool.Decides.{nat_tests}
 use Rattle.std.proofs.lemmas.List.{append-nil}
 use Rattle.vl_tree.specs.Values.{Name, Expr, Item, wire, reg, mem, assign, clocked, store}
@@ -153,7 +153,7 @@ module _ (all before rest : List Line) (e : all ≡ before ++ rest) where
 
   all-append : {A : Type 0} (f : A → Bool) (xs ys : List A) → list_all f xs ≡ true → list_all f ys ≡ true → list_all f (xs ++ ys) ≡ true
   all-append f [] ys a b = b
-  all-append f (x ∷ xs) ys a b = let ps = Rattle.std.proofs.lemmas.Bool.and_parts (f x) (list_all f xs) a in and_from (f x) (list_all f (xs ++ ys)) ps.0 (all-append f xs ys ps.1 b)
+  all-append f (x ∷ xs) ys a b = let ps = and_parts (f x) (list_all f xs) a in and_from (f x) (list_all f (xs ++ ys)) ps.0 (all-append f xs ys ps.1 b)
 
   known-line : (x : Item) → ItemIs all x → ReadyAt before x → line_known [] before (item x) ≡ true
   known-line (wire h n) a r = refl
