@@ -17,3 +17,4 @@ pub mod Walks
 pub mod Added
 pub mod Judged
 pub mod Shapes
+pub mod Sayings

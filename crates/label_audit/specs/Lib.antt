@@ -5,3 +5,4 @@ pub mod Audited
 pub mod Whole
 pub mod Walks
 pub mod Leaks
+pub mod Laws

@@ -11,6 +11,7 @@
 mod auditing;
 mod bit;
 mod expr;
+pub mod laws;
 mod leaks;
 mod operator;
 mod part;

@@ -4,6 +4,7 @@ pub mod Wheeled
 pub mod Judged
 pub mod Ended
 pub mod Simulated
+pub mod Stressed
 pub mod Loadings
 pub mod Makings
 pub mod OneReport
@@ -11,3 +12,4 @@ pub mod Readings
 pub mod Runnings
 pub mod TextReads
 pub mod Replays
+pub mod Replaying

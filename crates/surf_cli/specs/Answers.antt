@@ -17,6 +17,7 @@ use Rattle.surf_cli.specs.Accepted.{accepted_text}
 use Rattle.surf_cli.specs.Routes.{routes_text}
 use Rattle.noc_model.specs.Report.{report}
 use Rattle.surf_cli.specs.Simulate.{reports_of, events_of}
+use Rattle.surf_cli.specs.Stress.{summary_of}
 use Rattle.surf_cli.specs.Meaning.{Outcome, Halts}
 
 -- the bytes of a text that is not written yet
@@ -26,6 +27,7 @@ text_of (text.Accepted p) = accepted_text p
 text_of (text.Routes p) = routes_text p
 text_of (text.Reports reports) = reports_of reports.plan (events_of reports.events)
 text_of (text.Report one) = report one.plan one.domain (events_of one.events one.domain)
+text_of (text.Summary summary) = summary_of summary.plan (events_of summary.events)
 text_of (text.Bytes bytes) = bytes.items
 
 -- what the files hold is refused

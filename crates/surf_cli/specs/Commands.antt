@@ -1,13 +1,13 @@
 -- The commands, by their words.
-use Rattle.std.specs.Prelude.{ℕ, List, [], ◌∷◌, codes, if◌then◌else◌, Option, Some, None, option_map}
+use Rattle.std.specs.Prelude.{ℕ, List, [], ◌∷◌, codes, if◌then◌else◌, Option, Some, None, option_map, option_and_then}
 use Rattle.std.specs.Str.{bytes_eq}
 use Rattle.surf_base.specs.Numbers.{decimal_in}
 use Rattle.surf_cli.specs.declared.files.FileKind.TheVariants.{Description, Text, Trace}
 use Rattle.noc_model.specs.Limits.{most_cycles}
 use Rattle.desc_check.specs.Words.{is_name}
-use Rattle.surf_cli.specs.Limits.{table_cycles}
+use Rattle.surf_cli.specs.Limits.{table_cycles, most_number}
 use Rattle.surf_cli.specs.Files.{NamedFile, file_of}
-use Rattle.surf_cli.specs.Jobs.{Schedule, Check, Routes, Simulate, Report, Upgrade, Replay, Audit, Command, command}
+use Rattle.surf_cli.specs.Jobs.{Schedule, Check, Routes, Simulate, Report, Upgrade, Replay, Audit, Stress, Command, command}
 
 -- schedule DESC CYCLES
 abbrev pub schedule_words : List (List ℕ) → Option Command
@@ -59,6 +59,13 @@ audit_words (description ∷ text ∷ []) =
     Some (command (file_of Description description ∷ file_of Text text ∷ []) Audit)
 audit_words _ = None
 
+-- stress NUMBER CYCLES, which names no file
+abbrev pub stress_words : List (List ℕ) → Option Command
+stress_words (number ∷ cycles ∷ []) =
+    option_and_then (λ k. option_map (λ n. command [] (Stress k n)) (decimal_in most_cycles cycles))
+    (decimal_in most_number number)
+stress_words _ = None
+
 -- the command of a verb and the words after it
 abbrev pub command_by : List ℕ → List (List ℕ) → Option Command
 command_by verb args =
@@ -70,6 +77,7 @@ command_by verb args =
     else if bytes_eq verb (codes "upgrade") then upgrade_words args
     else if bytes_eq verb (codes "replay") then replay_words args
     else if bytes_eq verb (codes "audit") then audit_words args
+    else if bytes_eq verb (codes "stress") then stress_words args
     else None
 
 -- the command that the words are; nothing where they are no row of the table of commands

@@ -13,6 +13,7 @@ pub data Job : Type 0 where
   Upgrade : Job
   Replay : (cycles : ℕ) → Job
   Audit : Job
+  Stress : (number cycles : ℕ) → Job
 
 -- the files that the words name, and what is to be done
 pub record Command : Type 0 where
@@ -28,4 +29,5 @@ abbrev pub HasFewCycles : Job → Type 0
 HasFewCycles (Simulate cycles) = cycles ≤ most_cycles
 HasFewCycles (Report cycles domain) = cycles ≤ most_cycles
 HasFewCycles (Replay cycles) = cycles ≤ most_cycles
+HasFewCycles (Stress number cycles) = cycles ≤ most_cycles
 HasFewCycles _ = Unit {0}

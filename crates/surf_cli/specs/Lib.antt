@@ -13,9 +13,11 @@ pub mod Turning
 pub mod Accepted
 pub mod Routes
 pub mod Simulate
+pub mod Stress
 pub mod TextRead
 pub mod Replay
 pub mod Meaning
 pub mod Answers
 pub mod Runs
 pub mod Reading
+pub mod Laws

@@ -5,6 +5,10 @@ use Rattle.std.specs.Prelude.{ℕ}
 abbrev pub table_cycles : ℕ
 table_cycles = 4096
 
+-- the greatest number of a stress run
+abbrev pub most_number : ℕ
+most_number = 4294967295
+
 -- the most bytes of a description
 abbrev pub description_limit : ℕ
 description_limit = 1048576

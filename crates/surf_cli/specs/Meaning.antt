@@ -26,11 +26,12 @@ use Rattle.surf_cli.specs.declared.refusals.Refusal.{Refusal}
 use Rattle.surf_cli.specs.declared.refusals.Refusal.TheVariants.{Description, NoDomain, Text, Trace, Leak}
 use Rattle.surf_cli.specs.Files.{NamedFile, limit_of}
 use Rattle.surf_cli.specs.Contents.{Contents, nothing, with_content}
-use Rattle.surf_cli.specs.Jobs.{Job, Schedule, Check, Routes, Simulate, Report, Upgrade, Replay, Audit, Command}
+use Rattle.surf_cli.specs.Jobs.{Job, Schedule, Check, Routes, Simulate, Report, Upgrade, Replay, Audit, Stress, Command}
 use Rattle.surf_cli.specs.Schedule.{schedule_text}
 use Rattle.surf_cli.specs.Accepted.{accepted_text}
 use Rattle.surf_cli.specs.Routes.{routes_text}
 use Rattle.surf_cli.specs.Simulate.{reports_text, report_text}
+use Rattle.surf_cli.specs.Stress.{stress_text}
 use Rattle.surf_cli.specs.TextRead.{judged_text}
 use Rattle.surf_cli.specs.Replay.{replayed_text}
 use Rattle.surf_cli.specs.AuditLines.{isolated_text}
@@ -125,6 +126,7 @@ over Upgrade held = with_plan held.description (λ p. Does (UpgradeOf p))
 over (Replay cycles) held = with_plan held.description (λ p. with_text p held.text (λ d.
     with_trace p held.trace (λ es. Does (Exactly (replayed_text p d es cycles)))))
 over Audit held = with_plan held.description (λ p. with_text p held.text (λ d. Audits p d))
+over (Stress number cycles) held = Does (Exactly (stress_text number cycles))
 
 -- what a command may write where it ends well: bytes that are right for its work; an audit writes its line for a design
 -- that is clean

@@ -2,14 +2,14 @@
 use Rattle.std.specs.Prelude.{List, [], ◌∷◌}
 use Rattle.surf_cli.specs.declared.files.NamedFile as code_file
 use Rattle.surf_cli.specs.declared.files.NamedFiles as code_files
-use Rattle.surf_cli.specs.declared.files.NamedFiles.TheVariants.{One, Two, Three}
+use Rattle.surf_cli.specs.declared.files.NamedFiles.TheVariants.{Zero, One, Two, Three}
 use Rattle.surf_cli.specs.declared.contents.Contents as code_contents
 use Rattle.surf_cli.specs.declared.commands.Job as code_job
 use Rattle.surf_cli.specs.declared.commands.Job.TheVariants as code
 use Rattle.surf_cli.specs.declared.commands.Command as code_command
 use Rattle.surf_cli.specs.Files.{NamedFile}
 use Rattle.surf_cli.specs.Contents.{Contents}
-use Rattle.surf_cli.specs.Jobs.{Job, Schedule, Check, Routes, Simulate, Report, Upgrade, Replay, Audit, Command}
+use Rattle.surf_cli.specs.Jobs.{Job, Schedule, Check, Routes, Simulate, Report, Upgrade, Replay, Audit, Stress, Command}
 
 -- a named file
 abbrev pub named : code_file.NamedFile → NamedFile
@@ -17,6 +17,7 @@ named file = record { kind = file.kind; name = file.name.now }
 
 -- the files of a command, in order
 abbrev pub listed : code_files.NamedFiles → List NamedFile
+listed Zero = []
 listed (One first) = named first ∷ []
 listed (Two first second) = named first ∷ named second ∷ []
 listed (Three first second third) = named first ∷ named second ∷ named third ∷ []
@@ -39,6 +40,7 @@ job (code.Report cycles domain) = Report cycles domain.now
 job code.Upgrade = Upgrade
 job (code.Replay cycles) = Replay cycles
 job code.Audit = Audit
+job (code.Stress number cycles) = Stress number cycles
 
 -- a command
 abbrev pub command : code_command.Command → Command

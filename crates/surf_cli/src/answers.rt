@@ -5,6 +5,7 @@ ghost use Rattle.std.specs.Prelude.{◌≡◌, [], IfOk};
 use crate::accepted::put_accepted;
 use crate::reports::{OneReport, Reports};
 use crate::routes::put_routes;
+use crate::summary::Summary;
 use crate::turning::OwnerTable;
 use noc_model::Plan;
 use std::alloc::{AllocError, Global};
@@ -23,6 +24,8 @@ pub(crate) enum Text {
     Reports(Reports),
     /// The report of one domain.
     Report(OneReport),
+    /// The summary of a stress run.
+    Summary(Summary),
     /// These bytes.
     Bytes(Vec<u8>),
 }
@@ -42,6 +45,7 @@ impl Text {
             Text::Routes(plan) => put_routes(block, out, &plan),
             Text::Reports(reports) => reports.put(block, out),
             Text::Report(report) => report.put(block, out),
+            Text::Summary(summary) => summary.put(block, out),
             Text::Bytes(bytes) => block.put(out, bytes.as_slice()),
         }
     }

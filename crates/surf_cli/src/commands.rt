@@ -14,6 +14,7 @@ mod report;
 mod routes;
 mod schedule;
 mod simulate;
+mod stress;
 mod upgrade;
 
 use crate::answers::{Answer, Text};
@@ -55,6 +56,13 @@ pub(crate) enum Job<'a> {
     },
     /// Whether a Verilog text isolates the domains.
     Audit,
+    /// The summary of so many cycles of a stress run.
+    Stress {
+        /// The number from which the trace is drawn.
+        number: u32,
+        /// The number of cycles.
+        cycles: u32,
+    },
 }
 
 /// What the words ask for.
@@ -84,6 +92,7 @@ pub(crate) fn command_of(words: &[String]) -> Option<Command<'_>>
         "upgrade" => upgrade::words(args),
         "replay" => replay::words(args),
         "audit" => audit::words(args),
+        "stress" => stress::words(args),
         _ => None,
     }
 }
@@ -103,6 +112,7 @@ fn text_for(alloc: Global, asked: Job<'_>, contents: Contents) -> Result<Text, E
         Job::Upgrade => upgrade::make(alloc, contents),
         Job::Replay { cycles } => replay::make(alloc, contents, cycles),
         Job::Audit => audit::make(alloc, contents),
+        Job::Stress { number, cycles } => stress::make(alloc, contents, number, cycles),
     }
 }
 

@@ -59,6 +59,8 @@ impl<'a> NamedFile<'a> {
 /// The files that a command names, in the order of its words.
 #[derive(Clone, Copy)]
 pub(crate) enum NamedFiles<'a> {
+    /// No file.
+    Zero,
     /// One file.
     One(NamedFile<'a>),
     /// Two files.

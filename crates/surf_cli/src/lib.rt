@@ -26,6 +26,7 @@ mod reports;
 mod routes;
 mod run;
 mod statuses;
+mod summary;
 mod table;
 mod text_judging;
 mod text_line;

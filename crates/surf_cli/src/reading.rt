@@ -67,6 +67,7 @@ pub(crate) fn read_files<F: Files>(
 {
     let contents = Contents::new(alloc);
     match names {
+        NamedFiles::Zero => Ok(contents),
         NamedFiles::One(first) => read_more(alloc, files, &[first], contents),
         NamedFiles::Two(first, second) => read_more(alloc, files, &[first, second], contents),
         NamedFiles::Three(first, second, third) => {

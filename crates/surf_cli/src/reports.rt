@@ -28,7 +28,12 @@ pub(crate) struct Reports {
 }
 
 /// The events of all domains in a run that the trace drives.
-fn simulate(alloc: Global, plan: &Plan, trace: &Trace, cycles: u32) -> Result<Events, AllocError>
+pub(crate) fn simulate(
+    alloc: Global,
+    plan: &Plan,
+    trace: &Trace,
+    cycles: u32,
+) -> Result<Events, AllocError>
     requires few { cycles ≤ most_cycles }
     ensures { IfOk result (λ events. AreAlone plan.now events trace.now cycles) }
 {

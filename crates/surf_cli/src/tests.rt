@@ -344,6 +344,7 @@ fn failing_calls_give_their_status(rt: HostRuntime) -> Result<(), Fail> {
 fn statuses_have_their_numbers(rt: HostRuntime) {
     let rows = [
         (Status::Good, 0),
+        (Status::Leak, 1),
         (Status::Usage, 2),
         (Status::Description, 3),
         (Status::Trace, 4),
@@ -952,6 +953,36 @@ fn a_text_isolates_the_domains_or_leaks(rt: HostRuntime) -> Result<(), Fail> {
         assert!(rt; got.0 == status, "{words}: {:?}", got.0);
         assert_eq!(rt; got.1.as_str(), out, "{words}");
         assert_eq!(rt; got.2.as_str(), err, "{words}");
+    }
+    Ok(())
+}
+
+#[test]
+fn a_stress_run_gives_its_counts(rt: HostRuntime) -> Result<(), Fail> {
+    let rows = [
+        (
+            "stress 1 1",
+            Status::Good,
+            "d0 takes 6 waits 0 drops 0 gots 0 held 6\nd1 takes 8 waits 0 drops 0 gots 0 held 8\n\
+d2 takes 8 waits 0 drops 0 gots 0 held 8\nd3 takes 6 waits 0 drops 0 gots 0 held 6\n",
+            "",
+        ),
+        (
+            "stress 1 1000",
+            Status::Good,
+            "d0 takes 937 waits 385 drops 0 gots 921 held 16\nd1 takes 1239 waits 287 drops 0 gots 1214 held 25\n\
+d2 takes 1244 waits 295 drops 0 gots 1210 held 34\nd3 takes 925 waits 626 drops 0 gots 900 held 25\n",
+            "",
+        ),
+        ("stress 1 65537", Status::Usage, "", "surf: usage\n"),
+        ("stress 4294967296 1", Status::Usage, "", "surf: usage\n"),
+        ("stress 1", Status::Usage, "", "surf: usage\n"),
+    ];
+    for (words, status, lines, line) in rows {
+        let (given, out, err) = run_over(&rt, words, &[], &[], &[])?;
+        assert!(rt; given == status, "{words}");
+        assert_eq!(rt; out.as_str(), lines, "{words}");
+        assert_eq!(rt; err.as_str(), line, "{words}");
     }
     Ok(())
 }

@@ -38,12 +38,12 @@ use Rattle.surf_replay.specs.Cycle.{seen_text, notified}
 use Rattle.surf_replay.specs.Going.{IsGoing}
 use Rattle.surf_replay.proofs.Fed.{same-inputs, Owns, among, given-ov, given-oa, given-op, given-ol, given-hr}
 
-bit : (b : Bool) → (one_if b == 1) ≡ b
+pub bit : (b : Bool) → (one_if b == 1) ≡ b
 bit true = refl
 bit false = refl
 
 -- an offer that is put on the ports is read there
-read-offer : (o : Option Offer) (nets : Nets) (h : Host) → at nets (codes "ov") h ≡ one_if (is_some o) → at nets (codes "oa") h ≡ address_of o → at nets (codes "op") h ≡ payload_of o → at nets (codes "ol") h ≡ last_of o → offer_at nets h ≡ o
+pub read-offer : (o : Option Offer) (nets : Nets) (h : Host) → at nets (codes "ov") h ≡ one_if (is_some o) → at nets (codes "oa") h ≡ address_of o → at nets (codes "op") h ≡ payload_of o → at nets (codes "ol") h ≡ last_of o → offer_at nets h ≡ o
 read-offer None nets h a b c d = rw a refl
 read-offer (Some w) nets h a b c d =
     rw (a, b, c, d) (ap (λ (l : Bool). Some (record { address = w.address; payload = w.payload; last = l })) (bit w.last))

@@ -1,15 +1,15 @@
 -- The numbers of the top's input ports.
-use Rattle.std.proofs.Common.{◌≡◌, ◌≢◌, ℕ, zero, suc, ◌+◌, ◌<◌, ◌≤◌, ◌^◌, Bool, true, false, ◌&&◌, ◌||◌, List, [], ◌∷◌, ◌++◌, length, map, set, drop, refl, sym, ◌∙◌, ap, subst, bytes_eq, arith, append_assoc, get_or-set_same, get_or-set_other, length-set}
-use Rattle.std.specs.Prelude.{Option, Some, None, is_some, not, if◌then◌else◌, slice_index, slice_set}
-use Rattle.std.specs.List.{AllByRecursion, list_any}
+use Rattle.std.proofs.Common.{◌≡◌, ℕ, ◌+◌, ◌<◌, ◌≤◌, ◌^◌, Bool, true, false, ◌||◌, List, [], ◌∷◌, ◌++◌, length, map, drop, refl, sym, ◌∙◌, ap, subst, bytes_eq, arith, append_assoc, get_or-set_same, get_or-set_other, length-set}
+use Rattle.std.specs.Prelude.{Option, Some, None, is_some, if◌then◌else◌, slice_index, slice_set}
+use Rattle.std.specs.List.{AllByRecursion}
 use Rattle.std.proofs.lemmas.Option.{none-some}
 use Rattle.std.proofs.lemmas.Bool.{both_ways, or_parts, or_from, false≢true, false_from_ne_true}
 use Rattle.vl_tree.specs.declared.tree.Port.{Port}
 use Rattle.vl_tree.specs.declared.tree.TopItem.{TopItem}
 use Rattle.vl_tree.specs.declared.tree.TopItem.TheVariants.{Wire, Instance}
 use Rattle.vl_tree.specs.Values.{Name, Leaf}
-use Rattle.vl_model.specs.declared.kind.Kind.TheVariants.{Input, Output, Inner, Child}
-use Rattle.vl_model.specs.Lines.{Line, heading, port, joint, sites_behind, Declared, declared, found, lookup, kind_passes, way_of, is_net, is_input, net_bits, widths}
+use Rattle.vl_model.specs.declared.kind.Kind.TheVariants.{Inner, Child}
+use Rattle.vl_model.specs.Lines.{Line, port, joint, sites_behind, Declared, declared, found, lookup, kind_passes, way_of, is_net, is_input, net_bits, widths}
 use Rattle.vl_model.specs.Rules.{is_kind, name_twice}
 use Rattle.vl_model.proofs.Passed.{Passes}
 use Rattle.vl_model.proofs.Settling.{one-name, itself}
@@ -34,11 +34,11 @@ Distinct (p ∷ ps) = (has_input ps p.name ≡ false) × Distinct ps
 abbrev pub First : List Line → List Port → Type 0
 First all ps = AllByRecursion (λ (p : Port). lookup all p.name ≡ Some (port_declared p)) ps
 
-no-lookup : (o : Option Declared) → is_some o ≡ false → o ≡ None
+pub no-lookup : (o : Option Declared) → is_some o ≡ false → o ≡ None
 no-lookup None e = refl
 no-lookup (Some x) e = absurd (false≢true (sym e))
 
-lookup-behind : (before rest : List Line) (n : Name) → lookup before n ≡ None → lookup (before ++ rest) n ≡ lookup rest n
+pub lookup-behind : (before rest : List Line) (n : Name) → lookup before n ≡ None → lookup (before ++ rest) n ≡ lookup rest n
 lookup-behind [] rest n e = refl
 lookup-behind (x ∷ before) rest n e = go (lookup-behind before rest n) (declared x) refl
   where

@@ -19,3 +19,5 @@ pub mod Begun
 pub mod Fresh
 pub mod Inputs
 pub mod Whole
+pub mod WordPut
+pub mod FirstPut

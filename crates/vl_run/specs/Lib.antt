@@ -9,3 +9,4 @@ pub mod Rows
 pub mod Stands
 pub mod Fresh
 pub mod Running
+pub mod Put

@@ -1,10 +1,11 @@
 //! A sound design that runs.
 
-ghost use Rattle.std.specs.Prelude.{◌≡◌, ◌+◌, ◌<◌, ◌^◌, ℕ, true, Some, slice_get, slice_index, map, IfOk};
+ghost use Rattle.std.specs.Prelude.{◌≡◌, ◌+◌, ◌<◌, ◌≤◌, ◌^◌, ℕ, true, Some, slice_get, slice_index, map, IfOk};
 ghost use Rattle.vl_tree.specs.declared.tree.Port.{Port};
-ghost use Rattle.vl_tree.specs.Values.{Name, Design};
+ghost use Rattle.vl_tree.specs.Values.{Name, Leaf, Design};
 ghost use Rattle.vl_tree.specs.Read.{read_design};
 ghost use Rattle.vl_model.specs.Meaning.{Values};
+ghost use Rattle.vl_model.specs.Lines.{leaf_named};
 ghost use Rattle.vl_model.specs.Rules.{IsSound};
 ghost use Rattle.vl_model.specs.Settle.{settled, with_inputs, inside_reset, inside_stepped};
 ghost use Rattle.vl_rules.specs.Answer.{design_of};
@@ -13,11 +14,13 @@ ghost use Rattle.vl_run.specs.State.{part_settled, shown_by};
 ghost use Rattle.vl_run.specs.Top.{inputs_of, with_ports, places_of};
 ghost use Rattle.vl_run.specs.Fresh.{IsBegun};
 ghost use Rattle.vl_run.specs.Stands.{Stands, AreInputs};
+ghost use Rattle.vl_run.specs.Put.{Memory, instances, memories_of, with_word_in, with_first};
 ghost use Rattle.vl_run.specs.Running.{running};
 
 use crate::cells::Cells;
 use crate::emit::{Scope, place};
-use crate::parts::{Part, edge_all, fresh_parts, settle_all, show_all};
+use crate::parts::{Part, edge_all, fresh_parts, put_word, settle_all, show_all};
+use crate::put::memory_line;
 use std::alloc::{AllocError, Global};
 use vl_rules::{Library, Module, Sound, declarations};
 use vl_tree::{Design, Port};
@@ -137,6 +140,33 @@ impl Machine {
     {
         settle_all(self.parts.as_mut_slice());
         show_all(self.parts.as_slice(), &mut self.tops);
+    }
+
+    /// Makes `value` the word `index` of memory `mem` of instance `instance`. Instances are numbered among the top's, and
+    /// memories among those of the instance's leaf, from 0. Nothing is known of the machine afterwards unless there are
+    /// such ones, and the value is below two to the width of the memory's words.
+    pub fn put_mem(&mut self, instance: u32, mem: u32, index: u32, value: u64)
+        ensures design { (running self.new).design ≡ (running self.old).design }
+        ensures puts { let d = (running self.old).design in (inside : Name → Values) (u : Name × Name) (l : Leaf) (m : Memory)
+            → Stands (running self.old) inside → slice_get (instances d.top.items) instance ≡ Some u
+            → leaf_named d.leaves u.0 ≡ Some l → slice_get (memories_of l.items) mem ≡ Some m → index ≤ m.last
+            → value < 2 ^ (m.high + 1) → Stands (running self.new) (with_word_in inside u.1 m.name index value) }
+        // At reset the word becomes one of the memories' first content.
+        ensures first { let d = (running self.old).design in (first : Name → Name → ℕ → ℕ) (u : Name × Name) (l : Leaf) (m : Memory)
+            → Stands (running self.old) (inside_reset d.leaves d.top.items first) → slice_get (instances d.top.items) instance ≡ Some u
+            → leaf_named d.leaves u.0 ≡ Some l → slice_get (memories_of l.items) mem ≡ Some m → index ≤ m.last
+            → value < 2 ^ (m.high + 1)
+            → Stands (running self.new) (inside_reset d.leaves d.top.items (with_first first u.1 m.name index value)) }
+    {
+        let row = memory_line(self.sound.design(), instance, mem);
+        put_word(
+            self.parts.as_mut_slice(),
+            instance as usize,
+            row,
+            index as usize,
+            value,
+        );
+        self.refresh();
     }
 
     /// The number that an output port of the top has in this cycle. Ports are numbered in the order of the list, from 0.

@@ -10,6 +10,7 @@ ghost use Rattle.vl_rules.specs.Library.{IsLibrary};
 ghost use Rattle.vl_run.specs.Emit.{place_in};
 ghost use Rattle.vl_run.specs.Program.{linked};
 ghost use Rattle.vl_run.specs.State.{part_settled, part_edged, shown_by};
+ghost use Rattle.vl_run.specs.Put.{part_with, parts_with};
 ghost use Rattle.vl_run.specs.Fresh.{IsFresh, AllFresh, HasLeaf};
 
 use crate::cells::Cells;
@@ -49,10 +50,25 @@ impl Part {
         self.state.edge(&self.program, tops);
     }
 
+    fn put(&mut self, row: usize, index: usize, value: u64)
+        ensures { self.new ≡ part_with row index value self.old }
+    {
+        self.state.put(row, index, value);
+    }
+
     fn show(&self, tops: &mut Cells)
         ensures { tops.new ≡ linked self.now.kept.nets self.now.code.outs tops.old }
     {
         copy(self.program.outs.as_slice(), &self.state.nets, tops);
+    }
+}
+
+/// Makes this the number at a word of the memory in a row of the instance of this number, if there is one.
+pub(crate) fn put_word(parts: &mut [Part], instance: usize, row: usize, index: usize, value: u64)
+    ensures { parts.new ≡ parts_with instance row index value parts.old }
+{
+    if instance < parts.len() {
+        parts[instance].put(row, index, value);
     }
 }
 

@@ -7,6 +7,7 @@ ghost use Rattle.vl_rules.specs.Lines.{lines_of, line_of};
 ghost use Rattle.vl_run.specs.Emit.{place_in};
 ghost use Rattle.vl_run.specs.Start.{IsWithin, words_of, empty_memory, IsStart};
 ghost use Rattle.vl_run.specs.Program.{stored_in, linked};
+ghost use Rattle.vl_run.specs.Put.{kept_with};
 ghost use Rattle.vl_run.specs.State.{settled_by, fed_by, readied_by, stored_by, moved_by, edged};
 
 use crate::cells::Cells;
@@ -176,5 +177,14 @@ impl State {
         self.ready(program);
         self.store(program);
         self.shift(program);
+    }
+
+    /// Makes this the number at a word of the memory in a row.
+    pub(crate) fn put(&mut self, row: usize, index: usize, value: u64)
+        ensures { self.new ≡ kept_with row index value self.old }
+    {
+        if row < self.memories.len() {
+            self.memories[row].write(index, value);
+        }
     }
 }

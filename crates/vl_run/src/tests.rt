@@ -51,3 +51,14 @@ fn counter_and_memory_run(rt: HostRuntime) -> Result<(), Fail> {
     }
     Ok(())
 }
+
+#[test]
+fn a_memory_shows_the_word_that_is_put(rt: HostRuntime) -> Result<(), Fail> {
+    let mut machine = Machine::new(rt.alloc(), sound(rt.alloc())?)?;
+    // The register is 2 at reset, so word 0 is shown, with the complement of 2 behind it.
+    machine.put_mem(0, 0, 0, 3);
+    assert_eq!(rt; machine.outputs(2), 0b1101);
+    machine.put_mem(0, 0, 1, 2);
+    assert_eq!(rt; machine.outputs(2), 0b1101);
+    Ok(())
+}
