@@ -1,0 +1,3 @@
+pub mod Inserted
+pub mod Rippled
+pub mod Zipped

@@ -1,0 +1,2 @@
+pub mod Ripple
+pub mod Zips
