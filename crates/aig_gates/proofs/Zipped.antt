@@ -1,14 +1,14 @@
 -- Words of literals, place by place.
-use Rattle.std.proofs.Common.{◌≡◌, ℕ, zero, suc, ◌+◌, ◌-◌, ◌*◌, ◌/◌, ◌%◌, ◌<◌, ◌≤◌, ◌^◌, Bool, true, false, ◌&&◌, List, [], ◌∷◌, ◌++◌, length, take, get_or, refl, sym, ◌∙◌, ap, subst, arith, inl, inr}
-use Rattle.std.specs.Prelude.{not, ◌||◌, ◌==◌, nat_lt, max, bit_and, bit_or, bit_xor, if◌then◌else◌, Result, Ok, Err, IfOk}
+use Rattle.std.proofs.Common.{◌≡◌, ℕ, zero, suc, ◌+◌, ◌-◌, ◌*◌, ◌/◌, ◌%◌, ◌<◌, ◌≤◌, ◌^◌, Bool, true, false, ◌&&◌, List, [], ◌∷◌, ◌++◌, length, take, drop, get_or, refl, sym, ◌∙◌, ap, subst, arith, inl, inr}
+use Rattle.std.specs.Prelude.{not, ◌||◌, ◌==◌, nat_lt, min, max, bit_and, bit_or, bit_xor, if◌then◌else◌, Result, Ok, Err, IfOk}
 use Rattle.std.proofs.lemmas.Bool.{cases_lt, cases_eq, lt-ltb, le-ltb, eq-eqb, ne_eqb}
 use Rattle.std.specs.Int.{bit_at}
 use Rattle.std.specs.Int.Bits.{xor_self}
 use Rattle.std.proofs.lemmas.Nat.Bits.{same_from_bits, bit_at-lt, bit_at_xor, bit_at-zero}
 use Rattle.std.proofs.lemmas.Nat.{pow_pos, mod-pow-add, shr-shr, and_block, or_block, xor_block}
-use Rattle.std.proofs.lemmas.List.{take_more, take_all, length-take-le, length_push}
+use Rattle.std.proofs.lemmas.List.{take_more, take_all, length-take-le, length_push, length-append}
 use Rattle.std.proofs.Math.Pow.{pow_mono}
-use Rattle.std.proofs.Math.Nat.{mul_comm, mul_assoc, mul-add, mod-eq_of_lt, mod-lt, add-mod, mod-add-mod, add-mul-mod_self_left}
+use Rattle.std.proofs.Math.Nat.{zero-mod, div-eq_of_lt, div-add-mod, mul_comm, mul_assoc, mul-add, mod-eq_of_lt, mod-lt, add-mod, mod-add-mod, add-mul-mod_self_left}
 use Rattle.aig_model.specs.Form.{literal, one_if_true, word}
 use Rattle.aig_model.specs.Netlist.{Net, Grows, IsOf, AreOf, settle_gates, Means, MeansWord, differ, majority}
 use Rattle.aig_model.proofs.Netlists.{wider, all-wider, means-grows, grows-twice, grown-literal, grown-word, word-append, word-small, full-sum}
@@ -524,3 +524,144 @@ equal-is x y = elim (cases_eq x y) [
       where
         one-of : (a b : ℕ) → a < 2 → b < 2 → (a + b) % 2 ≡ 0 → a ≡ b
         one-of a b la lb e = omega (arith, la, lb, e)
+
+-- ---- parts and joins
+
+pub word-drop : (v : ℕ → Bool) (xs : List ℕ) (i : ℕ) → word v (drop i xs) ≡ word v xs / 2 ^ i
+word-drop v [] zero = refl
+word-drop v [] (suc i) = nothing (2 ^ suc i)
+  where
+    nothing : (p : ℕ) → 0 ≡ 0 / p
+    nothing p = omega arith
+word-drop v (x ∷ xs) zero = whole (word v (x ∷ xs))
+  where
+    whole : (n : ℕ) → n ≡ n / 2 ^ 0
+    whole n = omega arith
+word-drop v (x ∷ xs) (suc i) =
+    let small = one-small (literal v x) in
+    let half : (one_if_true (literal v x) + 2 * word v xs) / 2 ≡ word v xs = omega (arith, small) in
+    let more : suc i ≡ 1 + i = omega arith in
+    word-drop v xs i ∙ sym (ap (λ k. word v (x ∷ xs) / 2 ^ k) more ∙ sym (shr-shr (word v (x ∷ xs)) 1 i) ∙ ap (λ z. z / 2 ^ i) half)
+
+pub below-drop : (k : ℕ) (xs : List ℕ) (i : ℕ) → AreBelow k xs → AreBelow k (drop i xs)
+below-drop k [] zero a = a
+below-drop k [] (suc i) a = tt
+below-drop k (x ∷ xs) zero a = a
+below-drop k (x ∷ xs) (suc i) a = below-drop k xs i a.1
+
+-- to drop all bits is to drop even more
+pub part-is : (v : ℕ → Bool) (xs : List ℕ) (low from : ℕ) → from ≡ min low (length xs) → word v (drop from xs) ≡ word v xs / 2 ^ low
+part-is v xs low from e = word-drop v xs from ∙ elim (cases_lt low (length xs)) [
+  | inl lt ↦ let same : from ≡ low = omega (arith, e, lt) in ap (λ k. word v xs / 2 ^ k) same
+  | inr le ↦
+      let fits : from ≡ length xs = omega (arith, e, le) in
+      let small = word-small v xs in
+      let larger = pow_mono le in
+      ap (λ k. word v xs / 2 ^ k) fits ∙ none (word v xs) (2 ^ length xs) small ∙ sym (none (word v xs) (2 ^ low) (omega (arith, small, larger)))
+]
+  where
+    none : (n p : ℕ) → n < p → n / p ≡ 0
+    none n p lt = div-eq_of_lt lt
+
+pub word-both : (v : ℕ → Bool) (xs ys : List ℕ) → word v (xs ++ ys) ≡ word v xs + 2 ^ length xs * word v ys
+word-both v [] ys = omega arith
+word-both v (x ∷ xs) ys =
+    let rest = word-both v xs ys in
+    let double : 2 ^ suc (length xs) ≡ 2 * 2 ^ length xs = omega arith in
+    let moved = ap (λ z. z * word v ys) double ∙ mul_assoc 2 (2 ^ length xs) (word v ys) in
+    omega (arith, rest, moved)
+
+pub below-both : (k : ℕ) (xs ys : List ℕ) → AreBelow k xs → AreBelow k ys → AreBelow k (xs ++ ys)
+below-both k [] ys a b = b
+below-both k (x ∷ xs) ys a b = (a.0, below-both k xs ys a.1 b)
+
+-- cut to its own length or to 64 bits
+pub cut-64 : (v : ℕ → Bool) (xs : List ℕ) (size : ℕ) → size ≡ min (length xs) 64 → word v xs % 2 ^ size ≡ word v xs % 2 ^ 64
+cut-64 v xs size e = elim (cases_lt 64 (length xs)) [
+  | inl lt ↦ let most : size ≡ 64 = omega (arith, e, lt) in ap (λ k. word v xs % 2 ^ k) most
+  | inr le ↦
+      let own : size ≡ length xs = omega (arith, e, le) in
+      ap (λ k. word v xs % 2 ^ k) own ∙ word-fits v xs (length xs) (omega arith) ∙ sym (word-fits v xs 64 le)
+]
+
+-- what is left of the greatest number, where what is cut off is known
+pub minus-over : (x m d : ℕ) → 0 < m → d ≡ x / m → (if not (d == 0) then 0 else m - 1 - x % m) ≡ m - 1 - x
+minus-over x m zero some e =
+    let split = div-add-mod x m in
+    let zeros : m * 0 ≡ 0 = omega arith in
+    let none : m * (x / m) ≡ 0 = ap (λ z. m * z) (sym e) ∙ zeros in
+    let same : x % m ≡ x = omega (arith, split, none) in
+    ap (λ z. m - 1 - z) same
+minus-over x m (suc d) some e =
+    let split = div-add-mod x m in
+    let more : m ≤ m * (x / m) = subst (λ z. m ≤ m * z) e (times m d) in
+    let rest : 0 ≡ m - 1 - x = omega (arith, split, more) in
+    ap (λ b. if not b then 0 else m - 1 - x % m) (ne_eqb (suc d) 0 (λ q. omega (arith, q))) ∙ rest
+  where
+    times : (m d : ℕ) → m ≤ m * suc d
+    times m d = let split = mul-add m 1 d in let e : suc d ≡ 1 + d = omega arith in let same = ap (λ z. m * z) e in omega (arith, split, same)
+
+-- each literal is the other
+pub record IsComplement (bits made : List ℕ) : Type 0 where
+  pub known : (k : ℕ) → AreBelow k bits → AreBelow k made
+  pub value : (v : ℕ → Bool) → word v made ≡ 2 ^ length bits - 1 - word v bits
+
+pub bound-some : (n : Net) → 0 < n.start → 0 < n.start + length n.gates
+bound-some n front = omega (arith, front)
+
+module _ (n : Net) (front : 0 < n.start) (bits low other : List ℕ) (count : ℕ) (kb : AreOf n bits) (p : IsPadded bits low count) (o : IsComplement low other) where
+  pub minus-known : AreOf n other
+  minus-known = o.known (n.start + length n.gates) (p.known (n.start + length n.gates) (bound-some n front) kb)
+
+  pub minus-value : (v : ℕ → Bool) → v 0 ≡ false → let s = settle_gates n v in word s other ≡ 2 ^ count - 1 - word s bits % 2 ^ count
+  minus-value v e =
+      let s : ℕ → Bool = settle_gates n v in
+      o.value s ∙ ap (λ k. 2 ^ k - 1 - word s low) p.count ∙ ap (λ z. 2 ^ count - 1 - z) (p.value s (no-variable n.start n.gates v front e))
+
+  pub minus-fits : length bits ≤ count → MeansWord n other (λ v. 2 ^ count - 1 - word (settle_gates n v) bits)
+  minus-fits fits = record { known = minus-known; value = λ v e. minus-value v e ∙ ap (λ z. 2 ^ count - 1 - z) (word-fits (settle_gates n v) bits count fits) }
+
+  -- where bits are cut off, the rest is 0 if one of them is 1
+  pub minus-cut : (n1 n2 : Net) (over : ℕ) (zeros rest : List ℕ) → Grows n n1 → Means n1 over (λ v. not (word (settle_gates n v) (drop count bits) == 0)) → IsPadded [] zeros count
+      → MeansWord n2 rest (λ v. let s = settle_gates n1 v in combined (Choose over) s (word s zeros) (word s other)) → MeansWord n2 rest (λ v. 2 ^ count - 1 - word (settle_gates n v) bits)
+  minus-cut n1 n2 over zeros rest g means z r = record {
+    known = r.known;
+    value = λ v e.
+        let s : ℕ → Bool = settle_gates n v in
+        let u : ℕ → Bool = settle_gates n1 v in
+        let X : ℕ = word s bits in
+        let front1 : 0 < n1.start = (let same = g.start in omega (arith, front, same)) in
+        let nothing : word u zeros ≡ 0 = z.value u (no-variable n1.start n1.gates v front1 e) ∙ none (2 ^ count) in
+        r.value v e ∙ ap (λ t. if t then word u zeros else word u other) (means.value v e) ∙ ap (λ q. if not (word s (drop count bits) == 0) then q else word u other) nothing
+        ∙ ap (λ q. if not (word s (drop count bits) == 0) then 0 else q) (grown-word n n1 g v other minus-known ∙ minus-value v e) ∙ minus-over X (2 ^ count) (word s (drop count bits)) (pow_pos count) (word-drop s bits count);
+  }
+    where
+      none : (m : ℕ) → 0 % m ≡ 0
+      none m = zero-mod m
+
+-- one word in so many bits, and the other behind it
+pub joined-value : (v : ℕ → Bool) → v 0 ≡ false → (back low front made : List ℕ) (count i : ℕ) → IsPadded back low count → length front ≤ i → made ≡ low ++ take i front → word v made ≡ word v back % 2 ^ count + 2 ^ count * word v front
+joined-value v e back low front made count i p all same =
+    ap (word v) same ∙ ap (λ ys. word v (low ++ ys)) (take_all i front all) ∙ word-both v low front ∙ ap (λ z. z + 2 ^ length low * word v front) (p.value v e) ∙ ap (λ k. word v back % 2 ^ count + 2 ^ k * word v front) p.count
+
+pub joined-count : (low front made : List ℕ) (count i : ℕ) → length low ≡ count → length front ≤ i → made ≡ low ++ take i front → length made ≡ count + length front
+joined-count low front made count i c all same = ap length same ∙ ap (λ ys. length (low ++ ys)) (take_all i front all) ∙ length-append low front ∙ ap (λ k. k + length front) c
+
+pub joined-known : (k : ℕ) (low front made : List ℕ) (i : ℕ) → length front ≤ i → made ≡ low ++ take i front → AreBelow k low → AreBelow k front → AreBelow k made
+joined-known k low front made i all same a b = subst (AreBelow k) (sym (same ∙ ap (λ ys. low ++ ys) (take_all i front all))) (below-both k low front a b)
+
+-- in 64 bits
+pub join-is : (s : ℕ → Bool) (front back all bits : List ℕ) (count : ℕ) → length back ≤ count → word s all ≡ word s back % 2 ^ count + 2 ^ count * word s front → word s bits ≡ word s all % 2 ^ 64
+    → word s bits ≡ (word s front * 2 ^ count + word s back) % 2 ^ 64
+join-is s front back all bits count fits whole cut =
+    let b = word-fits s back count fits in
+    let c = mul_comm (2 ^ count) (word s front) in
+    let sum : word s back % 2 ^ count + 2 ^ count * word s front ≡ word s front * 2 ^ count + word s back = omega (arith, b, c) in
+    cut ∙ ap (λ z. z % 2 ^ 64) (whole ∙ sum)
+
+pub sum-join : (F p B : ℕ) (h : ℕ) → h ≡ 0 % p + p * F → (h + B) % 2 ^ 64 ≡ (F * p + B) % 2 ^ 64
+sum-join F p B h e =
+    let none = zero-mod p in
+    let c = mul_comm p F in
+    let same : h + B ≡ F * p + B = omega (arith, e, none, c) in
+    ap (λ z. z % 2 ^ 64) same

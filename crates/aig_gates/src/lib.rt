@@ -7,7 +7,9 @@
 #![tactic(auto)]
 
 mod gates;
+mod memory;
 mod words;
 
 pub use gates::{Netlist, Place, Sum, Word, complement};
-pub use words::{Way, bit, complements, number_word, padded, width};
+pub use memory::{Row, literals};
+pub use words::{Way, bit, complements, number_word, padded, part, single, width};

@@ -1,6 +1,6 @@
 //! Words of literals, from bit 0 up.
 
-ghost use Rattle.std.specs.Prelude.{◌≡◌, ℕ, ◌+◌, ◌-◌, ◌%◌, ◌^◌, ◌<◌, ◌≤◌, ◌==◌, nat_lt, max, Bool, false, not, length, slice_index, IfOk};
+ghost use Rattle.std.specs.Prelude.{◌≡◌, ℕ, ◌+◌, ◌-◌, ◌*◌, ◌/◌, ◌%◌, ◌^◌, ◌<◌, ◌≤◌, ◌==◌, nat_lt, max, Bool, false, not, [], ◌∷◌, length, slice_index, IfOk};
 ghost use Rattle.aig_model.specs.Form.{literal, one_if_true, word};
 ghost use Rattle.aig_model.specs.Netlist.{Grows, IsOf, AreOf, Means, MeansWord, settle_gates};
 ghost use Rattle.aig_gates.specs.Zips.{AreBelow, IsWayOf, paired, combined, IsZipped, IsLess};
@@ -54,6 +54,39 @@ pub fn padded(alloc: Global, bits: &[u64], count: usize) -> Result<Word, AllocEr
     Ok(all)
 }
 
+/// The bits from `low` on, so many of them. Behind the last stand zeros.
+pub fn part(alloc: Global, bits: &[u64], low: usize, count: usize) -> Result<Word, AllocError>
+    ensures known { IfOk result (λ r. (k : ℕ) → 0 < k → AreBelow k bits.now → AreBelow k r) }
+    ensures count { IfOk result (λ r. length r ≡ count) }
+    ensures value { IfOk result (λ r. (v : ℕ → Bool) → v 0 ≡ false → word v r ≡ word v bits.now / 2 ^ low % 2 ^ count) }
+{
+    let from = low.min(bits.len());
+    let part = padded(alloc, &bits[from..], count)?;
+    Ok(part)
+}
+
+/// One word in so many bits, and the other behind it.
+fn joined(alloc: Global, back: &[u64], count: usize, front: &[u64]) -> Result<Word, AllocError>
+    ensures known { IfOk result (λ r. (k : ℕ) → 0 < k → AreBelow k back.now → AreBelow k front.now → AreBelow k r) }
+    ensures count { IfOk result (λ r. length r ≡ count + length front.now) }
+    ensures value { IfOk result (λ r. (v : ℕ → Bool) → v 0 ≡ false → word v r ≡ word v back.now % 2 ^ count + 2 ^ count * word v front.now) }
+{
+    let mut all = padded(alloc, back, count)?;
+    for literal in front {
+        all.push(*literal)?;
+    }
+    Ok(all)
+}
+
+/// A word of one bit.
+pub fn single(alloc: Global, literal: u64) -> Result<Word, AllocError>
+    ensures { IfOk result (λ r. r ≡ literal ∷ []) }
+{
+    let mut bits = Seq::new(alloc);
+    bits.push(literal)?;
+    Ok(bits)
+}
+
 /// The literal at a place. Behind the last stand zeros.
 pub fn bit(bits: &[u64], place: usize) -> u64
     ensures { result ≡ slice_index bits.now place }
@@ -80,11 +113,7 @@ pub fn complements(alloc: Global, bits: &[u64]) -> Result<Word, AllocError>
 fn longer(first: &[u64], second: &[u64]) -> usize
     ensures { result ≡ max (length first.now) (length second.now) }
 {
-    if first.len() < second.len() {
-        second.len()
-    } else {
-        first.len()
-    }
+    first.len().max(second.len())
 }
 
 impl Netlist {
@@ -272,5 +301,53 @@ impl Netlist {
         let apart = self.combine(alloc, Way::Xor, first, second)?;
         let differ = self.any(apart.as_slice())?;
         Ok(complement(differ))
+    }
+
+    /// What is left of the greatest number of so many bits, or 0 where the word's number is greater.
+    pub fn minus(&mut self, alloc: Global, bits: &[u64], count: usize) -> Result<Word, AllocError>
+        requires { AreOf self.now bits.now }
+        ensures grows { Grows self.old self.new }
+        ensures count { IfOk result (λ r. length r ≡ count) }
+        ensures value { IfOk result (λ r. MeansWord self.new r (λ v. 2 ^ count - 1 - word (settle_gates self.old v) bits.now)) }
+        ensures free { length bits.now ≤ count → self.new ≡ self.old }
+    {
+        self.known();
+        let low = padded(alloc, bits, count)?;
+        let other = complements(alloc, low.as_slice())?;
+        if bits.len() <= count {
+            return Ok(other);
+        }
+        let over = self.any(&bits[count..])?;
+        let zeros = padded(alloc, &[], count)?;
+        let rest = self.combine(alloc, Way::Choose(over), zeros.as_slice(), other.as_slice())?;
+        Ok(rest)
+    }
+
+    /// The front in front of so many bits, and the back in these, in 64 bits.
+    pub fn join(
+        &mut self,
+        alloc: Global,
+        front: &[u64],
+        back: &[u64],
+        count: usize,
+    ) -> Result<Word, AllocError>
+        requires front { AreOf self.now front.now }
+        requires back { AreOf self.now back.now }
+        ensures grows { Grows self.old self.new }
+        ensures small { IfOk result (λ r. length r ≤ 64) }
+        ensures count { IfOk result (λ r. length back.now ≤ count → length r ≤ count + length front.now) }
+        ensures value { IfOk result (λ r. MeansWord self.new r (λ v. let s = settle_gates self.old v in (word s front.now * 2 ^ count + word s back.now) % 2 ^ 64)) }
+        ensures free { length back.now ≤ count → self.new ≡ self.old }
+    {
+        self.known();
+        if back.len() <= count {
+            let all = joined(alloc, back, count, front)?;
+            let size = all.len().min(64);
+            let bits = padded(alloc, all.as_slice(), size)?;
+            return Ok(bits);
+        }
+        let high = joined(alloc, &[], count, front)?;
+        let bits = self.add(alloc, high.as_slice(), back, 64)?;
+        Ok(bits)
     }
 }
