@@ -32,6 +32,7 @@ pub fn width(number: u64) -> u32
 pub fn number_word(alloc: Global, number: u64) -> Result<Word, AllocError>
     ensures known { IfOk result (λ r. (k : ℕ) → 0 < k → AreBelow k r) }
     ensures count { IfOk result (λ r. (w : ℕ) → number < 2 ^ w → length r ≤ w) }
+    ensures narrow { IfOk result (λ r. length r ≤ 64) }
     ensures value { IfOk result (λ r. (v : ℕ → Bool) → v 0 ≡ false → word v r ≡ number) }
 {
     let mut bits = Seq::new(alloc);
