@@ -1,20 +1,20 @@
 -- What actions compute, on words.
-use Rattle.std.proofs.Common.{◌≡◌, ◌≢◌, ℕ, zero, suc, ◌+◌, ◌-◌, ◌*◌, ◌/◌, ◌%◌, ◌<◌, ◌≤◌, ◌^◌, Bool, true, false, List, [], ◌∷◌, length, map, get_or, refl, sym, ◌∙◌, ap, subst, arith, inl, inr}
+use Rattle.std.proofs.Common.{◌≡◌, ℕ, zero, suc, ◌+◌, ◌-◌, ◌*◌, ◌/◌, ◌%◌, ◌<◌, ◌≤◌, ◌^◌, Bool, true, false, List, [], ◌∷◌, length, get_or, refl, sym, ◌∙◌, ap, subst, arith, inl, inr}
 use Rattle.std.specs.Prelude.{not, ◌==◌, bit_and, if◌then◌else◌, Result, Ok, Err, IfOk}
-use Rattle.std.proofs.lemmas.Bool.{cases_lt, cases_eq, eq-eqb, ne_eqb}
+use Rattle.std.proofs.lemmas.Bool.{cases_lt, cases_eq, ne_eqb}
 use Rattle.std.proofs.lemmas.Nat.{pow_pos, pow-add, mod-pow-add, and_mask}
-use Rattle.std.proofs.lemmas.Nat.Bits.{bit_at-trailing_zeros, bit_at-pow_other}
-use Rattle.std.specs.Int.{trailing_zeros, bit_at}
+use Rattle.std.proofs.lemmas.Nat.Bits.{bit_at-pow_other}
+use Rattle.std.specs.Int.{bit_at}
 use Rattle.std.proofs.Math.Pow.{pow_mono}
-use Rattle.std.proofs.Math.Nat.{mul_comm, mul-add, mul-le-mul_left, mod-lt, mod-eq_of_lt, mod-mod, mod_self, mod-add-mod, div-add-mod, add-mul-mod_self_right, mul-add-mod_self_right}
-use Rattle.aig_model.specs.Form.{literal, one_if_true, word}
-use Rattle.aig_model.specs.Netlist.{Net, Grows, AreOf, settle_gates, Means, MeansWord}
+use Rattle.std.proofs.Math.Nat.{mul_comm, mul-le-mul_left, mod-lt, mod-eq_of_lt, mod-mod, mod_self, mod-add-mod, div-add-mod, add-mul-mod_self_right, mul-add-mod_self_right}
+use Rattle.aig_model.specs.Form.{one_if_true, word}
+use Rattle.aig_model.specs.Netlist.{Net, Means, MeansWord}
 use Rattle.aig_model.proofs.Netlists.{word-small}
 use Rattle.vl_model.specs.Meaning.{one_if, chosen}
 use Rattle.aig_gates.specs.Memory as memory
 use Rattle.aig_gates.specs.Zips.{AreBelow}
 use Rattle.aig_gates.proofs.Zipped.{bound-some}
-use Rattle.aig_cycle.specs.Wires.{numbers, rows, IsWord, AreWords, AreRows, IsMask, IsScale}
+use Rattle.aig_cycle.specs.Wires.{numbers, rows, IsWord, AreWords, AreRows, IsMask}
 
 -- ---- masks and scales
 

@@ -80,7 +80,7 @@ fn choice(
 }
 
 /// The memory at a place, without words behind the last.
-fn memory(memories: &[Row], place: usize) -> &[Word]
+pub(crate) fn memory(memories: &[Row], place: usize) -> &[Word]
     ensures { result.now ≡ slice_index_or memories.now place [] }
 {
     match memories.get(place) {
@@ -90,7 +90,7 @@ fn memory(memories: &[Row], place: usize) -> &[Word]
 }
 
 /// What an action computes, as a word.
-pub fn value(
+pub(crate) fn value(
     netlist: &mut Netlist,
     alloc: Global,
     action: Action,

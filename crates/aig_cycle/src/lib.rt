@@ -7,3 +7,8 @@
 #![tactic(auto)]
 
 mod action;
+mod steps;
+mod wires;
+
+pub use steps::{put, put_row};
+pub use wires::{Wired, edge_all, settle_all, show_all};

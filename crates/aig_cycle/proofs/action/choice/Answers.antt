@@ -1,4 +1,4 @@
-use Rattle.std.proofs.Common.{◌≡◌, ℕ, Bool, ◌∙◌, ap}
+use Rattle.std.proofs.Common.{ℕ, Bool, ◌∙◌, ap}
 use Rattle.std.specs.Prelude.{not, ◌==◌, if◌then◌else◌}
 use Rattle.aig_model.specs.Form.{word}
 use Rattle.aig_model.specs.Netlist.{settle_gates}

@@ -1,4 +1,4 @@
-use Rattle.std.proofs.Common.{◌≡◌, ◌≢◌, ℕ, ◌<◌, ◌≤◌, ◌^◌, w64, arith}
+use Rattle.std.proofs.Common.{◌≡◌, ℕ, ◌<◌, w64, arith}
 use Rattle.std.proofs.lemmas.Nat.Bits.{bit_at-trailing_zeros}
 use Rattle.aig_cycle.proofs.Actions.{scale-shift, scale-place}
 use Rattle.aig_cycle.proofs.action.shift.Goals as goal

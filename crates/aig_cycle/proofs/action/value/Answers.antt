@@ -1,10 +1,10 @@
-use Rattle.std.proofs.Common.{◌≡◌, ℕ, ◌+◌, ◌-◌, ◌*◌, ◌/◌, ◌%◌, ◌^◌, ◌<◌, ◌≤◌, Bool, false, List, [], length, map, get_or, sym, subst, ◌∙◌, ap, arith}
-use Rattle.std.specs.Prelude.{IfOk, slice_index, bit_and}
+use Rattle.std.proofs.Common.{◌≡◌, ℕ, ◌+◌, ◌-◌, ◌*◌, ◌/◌, ◌%◌, ◌^◌, ◌<◌, ◌≤◌, Bool, false, List, [], length, map, get_or, sym, subst, ◌∙◌, ap}
+use Rattle.std.specs.Prelude.{IfOk, slice_index}
 use Rattle.aig_model.specs.Form.{word}
 use Rattle.aig_model.specs.Netlist.{Net, MeansWord, settle_gates}
 use Rattle.vl_model.specs.Meaning.{chosen}
 use Rattle.vl_run.specs.declared.step.Action.{Action}
-use Rattle.vl_run.specs.declared.step.Action.TheVariants.{Number, Copy, Bits, Not, Two, Choose, Load, Join}
+use Rattle.vl_run.specs.declared.step.Action.TheVariants.{Number, Bits, Not, Two, Choose, Load, Join}
 use Rattle.vl_run.specs.Step.{combined, action_value, word_at}
 use Rattle.aig_gates.specs.Memory as memory
 use Rattle.aig_gates.specs.Zips.{AreBelow}
