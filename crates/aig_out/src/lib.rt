@@ -7,7 +7,10 @@
 #![tactic(auto)]
 
 mod form;
+pub mod laws;
+mod run;
 mod text;
 
 pub use form::{Aig, Gates, Literals};
+pub use run::AigRun;
 pub use text::{put_aig, write_aig};
