@@ -7,8 +7,10 @@
 #![tactic(auto)]
 
 mod action;
+mod latches;
 mod steps;
 mod wires;
 
+pub use latches::{latch_literals, latch_word, port_literals};
 pub use steps::{put, put_row};
 pub use wires::{Wired, edge_all, settle_all, show_all};

@@ -14,3 +14,6 @@ mod text;
 pub use form::{Aig, Gates, Literals};
 pub use run::AigRun;
 pub use text::{put_aig, write_aig};
+
+#[cfg(test)]
+mod tests;
