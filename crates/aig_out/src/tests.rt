@@ -1,4 +1,4 @@
-ghost use Rattle.std.specs.Prelude.{IfOk};
+ghost use Rattle.std.specs.Prelude.{◌≡◌, length, IfOk};
 ghost use Rattle.aig_model.specs.Form.{IsForm};
 ghost use Rattle.aig_out.specs.Forms.{form_of};
 
@@ -10,7 +10,9 @@ use surf_base::{MemSink, Seq};
 
 /// One input; a register that is 1 after reset and takes it; outputs true, the register, and the input where the register is 1.
 fn form(alloc: Global) -> Result<Aig, AllocError>
-    ensures { IfOk result (λ a. IsForm (form_of a)) }
+    ensures form { IfOk result (λ a. IsForm (form_of a)) }
+    ensures inputs { IfOk result (λ a. a.inputs ≡ 1) }
+    ensures outputs { IfOk result (λ a. length a.outputs ≡ 3) }
 {
     Ok(Aig {
         inputs: 1,
@@ -38,18 +40,23 @@ fn a_form_is_written(rt: HostRuntime) -> Result<(), Fail> {
     Ok(())
 }
 
+/// The outputs of a cycle.
+fn outputs(run: &mut AigRun, input: bool) -> [bool; 3]
+    requires inputs { run.now.form.inputs ≡ 1 }
+    requires outputs { length run.now.form.outputs ≡ 3 }
+    ensures { run.new.form ≡ run.old.form }
+{
+    let mut bits = [false; 3];
+    run.step(&[input], &mut bits);
+    bits
+}
+
 #[test]
 fn a_latch_that_is_1_after_reset_runs(rt: HostRuntime) -> Result<(), Fail> {
     let mut run = AigRun::new(rt.alloc(), form(rt.alloc())?)?;
-    for (input, register, both) in [
-        (true, true, true),
-        (false, true, false),
-        (true, false, false),
-        (true, true, true),
-    ] {
-        let mut outputs = [false; 3];
-        run.step(&[input], &mut outputs);
-        assert_eq!(rt; outputs, [true, register, both]);
-    }
+    assert_eq!(rt; outputs(&mut run, true), [true, true, true]);
+    assert_eq!(rt; outputs(&mut run, false), [true, true, false]);
+    assert_eq!(rt; outputs(&mut run, true), [true, false, false]);
+    assert_eq!(rt; outputs(&mut run, true), [true, true, true]);
     Ok(())
 }
