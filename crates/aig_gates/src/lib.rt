@@ -13,3 +13,6 @@ mod words;
 pub use gates::{Netlist, Place, Sum, Word, complement};
 pub use memory::{Row, literals};
 pub use words::{Way, bit, complements, number_word, padded, part, single, width};
+
+#[cfg(test)]
+mod tests;
