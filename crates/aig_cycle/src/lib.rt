@@ -9,8 +9,10 @@
 mod action;
 mod latches;
 mod steps;
+mod taken;
 mod wires;
 
 pub use latches::{latch_literals, latch_word, port_literals};
 pub use steps::{put, put_row};
+pub use taken::next_literals;
 pub use wires::{Wired, edge_all, settle_all, show_all};
