@@ -17,8 +17,8 @@ fn digit(number: u64, place: usize) -> u64
     if place < 64 { (number >> place) & 1 } else { 0 }
 }
 
-/// The word that a register begins a cycle with, of `high + 1` latches, of which the first is variable `first`. A latch begins at
-/// 0, so bits that are 1 in the reset constant are complemented.
+/// The word that a register begins a cycle with, of `high + 1` latches, of which the first is variable `first`. A latch
+/// begins at 0, so bits that are 1 in the reset constant are complemented.
 ///
 /// # Errors
 ///

@@ -82,8 +82,8 @@ fn add_memories(
     Ok(())
 }
 
-/// The literals that the latches of an instance take, whose words these are: registers', complemented where their reset constants
-/// have a 1, and then memories', word by word.
+/// The literals that the latches of an instance take, whose words these are: registers', complemented where their reset
+/// constants have a 1, and then memories', word by word.
 ///
 /// # Errors
 ///

@@ -9,8 +9,8 @@ pub type Literals = Seq<u64>;
 /// Gates in order.
 pub type Gates = Seq<Gate>;
 
-/// A form. Input `i` is variable `i + 1`; the latches' variables stand behind the inputs', the gates' behind those. All latches
-/// begin at 0.
+/// A form. Input `i` is variable `i + 1`; the latches' variables stand behind the inputs', the gates' behind those. All
+/// latches begin at 0.
 #[derive(Debug, Drop)]
 pub struct Aig {
     /// How many inputs there are.

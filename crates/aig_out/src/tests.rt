@@ -8,7 +8,8 @@ use std::alloc::{AllocError, Global};
 use std::test::Fail;
 use surf_base::{MemSink, Seq};
 
-/// One input; a register that is 1 after reset and takes it; outputs true, the register, and the input where the register is 1.
+/// One input; a register that is 1 after reset and takes it; outputs true, the register, and the input where the
+/// register is 1.
 fn form(alloc: Global) -> Result<Aig, AllocError>
     ensures form { IfOk result (λ a. IsForm (form_of a)) }
     ensures inputs { IfOk result (λ a. a.inputs ≡ 1) }
