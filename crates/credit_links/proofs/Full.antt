@@ -3,7 +3,8 @@ use Rattle.std.proofs.Common.{◌≡◌, ℕ, zero, suc, ◌≤◌, List, [], �
 use Rattle.std.specs.Prelude.{slice_index_or}
 use Rattle.vc_partition.specs.Lanes.{lane}
 
-pub map-replicate : (f : ℕ → ℕ) (b : ℕ) (xs : List ℕ) → map (λ c. replicate c b) (map f xs) ≡ map (λ d. replicate (f d) b) xs
+pub map-replicate : (f : ℕ → ℕ) (b : ℕ) (xs : List ℕ)
+    → map (λ c. replicate c b) (map f xs) ≡ map (λ d. replicate (f d) b) xs
 map-replicate f b [] = refl
 map-replicate f b (x ∷ xs) = ap (λ ys. replicate (f x) b ∷ ys) (map-replicate f b xs)
 

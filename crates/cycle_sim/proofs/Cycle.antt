@@ -42,7 +42,7 @@ use Rattle.wave_sched.specs.Wheels.{Stands}
 use Rattle.router_core.specs.Shown as routers
 use Rattle.cycle_sim.specs.Attached.{with_told, told_by, state_after}
 use Rattle.cycle_sim.specs.Links.{row_of, pulses_of, arrival_at, credit_at, ComesIn}
-use Rattle.cycle_sim.specs.TileCycle.{ArePulses, MayStep, HasStepped}
+use Rattle.cycle_sim.specs.TileCycle.{AreAllPulses, MayStep, HasStepped}
 use Rattle.cycle_sim.specs.Net.{kept, Shows, IsRun, IsQuiet, IsRouterOf, IsWhole}
 use Rattle.cycle_sim.proofs.Numbers.{arrival-unlinked, credit-unlinked, credit-linked, arrival-linked, number-below, quotient-below, remainder-below}
 use Rattle.cycle_sim.proofs.Told.{shows-told, made-told}
@@ -155,7 +155,7 @@ module _ (p : Plan) (t : ℕ) (v : Driver) (st : ℕ → List ℕ) (first told a
         away = λ d none. c.told_away n d a.0 r a.1 is none ∙ old.away d none;
       }
 
-  pub are-pulses : ArePulses p pulses
+  pub are-pulses : AreAllPulses p pulses
   are-pulses = record { count = c.pulse_count; each = c.pulse_ports; few = few }
     where
       few : (m d port w : ℕ) → m < tiles p → d < length p.domains → pulse_at (pulses_of pulses m) d port ≡ Some w → w < link_channels p d

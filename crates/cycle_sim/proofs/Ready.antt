@@ -20,7 +20,7 @@ use Rattle.router_core.specs.Pulses.{is_pulse, pulse_at}
 use Rattle.router_core.specs.Parts.{Parts}
 use Rattle.router_core.specs.Shown.{Shows}
 use Rattle.cycle_sim.specs.Links.{arrival_at, credit_at, credit_from, pulses_of}
-use Rattle.cycle_sim.specs.TileCycle.{ArePulses, MayStep}
+use Rattle.cycle_sim.specs.TileCycle.{AreAllPulses, MayStep}
 
 -- ---- room
 
@@ -65,7 +65,7 @@ module _ (p : Plan) (d n t : ℕ) (rows : List (List (Option LinkFlit))) (pulses
       (come.channel, omega (arith, short, same, room))
 
   -- a credit that comes back was missing
-  pub credit-fits : (new : Parts) (port w : ℕ) → n < tiles p → ArePulses p pulses → Shows new p d (tile_step p d n (pos t) may.tile (outside (told_at r.told d)))
+  pub credit-fits : (new : Parts) (port w : ℕ) → n < tiles p → AreAllPulses p pulses → Shows new p d (tile_step p d n (pos t) may.tile (outside (told_at r.told d)))
       → credit_at p d n pulses port ≡ Some w → ((m : ℕ) → neighbour p n port ≡ Some m → m < tiles p)
       → (w < link_channels p d) × (count_at new.credits d (place p d port w) < p.buffer)
   credit-fits new port w tile_in are shown here ends =

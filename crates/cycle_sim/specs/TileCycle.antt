@@ -26,8 +26,8 @@ pub record HasStepped (p : Plan) (n t : ℕ) (rows : List (List (Option LinkFlit
   pub out_is : (d o m : ℕ) (s : Tile) (i : TileIn) → d < length p.domains → Shows r p d s → ComesIn p d n t rows pulses (told_at r.told d) i
       → neighbour p n o ≡ Some m → owner p n o (pos t) ≡ d → slice_index_or out o None ≡ sent p d n (pos t) s i o
 
--- the credit pulses of each tile
-pub record ArePulses (p : Plan) (pulses : List (List (List (Option ℕ)))) : Type 0 where
+-- the credit pulses of all tiles, each with a place for each port of each domain, and of channels that there are
+pub record AreAllPulses (p : Plan) (pulses : List (List (List (Option ℕ)))) : Type 0 where
   pub count : length pulses ≡ tiles p
   pub each : (m : ℕ) → m < tiles p → HasPorts p (pulses_of pulses m)
   pub few : (m d port c : ℕ) → m < tiles p → d < length p.domains → pulse_at (pulses_of pulses m) d port ≡ Some c

@@ -4,6 +4,7 @@ ghost use Rattle.std.specs.Prelude.{◌≡◌, ◌≢◌, ◌<◌, ◌*◌, ℕ,
 ghost use Rattle.noc_model.specs.declared.LinkFlit.{LinkFlit as LinkFlitValue};
 ghost use Rattle.noc_model.specs.Plan.{tiles, ports, link_channels};
 ghost use Rattle.noc_model.specs.Inputs.{place};
+ghost use Rattle.noc_model.specs.Place.{neighbour};
 ghost use Rattle.noc_model.specs.Tile.{Tile};
 ghost use Rattle.wave_sched.specs.Wheels.{Stands};
 ghost use Rattle.credit_links.specs.Counts.{count_at};
@@ -60,16 +61,18 @@ pub(crate) fn receive(plan: &Plan, tile: u32, cycle: u32, rows: &[Pipe], router:
     }
 }
 
-/// A credit of domain `d` comes back by a port.
+/// A credit of domain `d` comes back by a port, over the link from tile `from`.
 fn give_back_at(
     plan: &Plan,
     tile: u32,
+    from: u32,
     pulses: &[Lanes<Option<u32>>],
     d: u32,
     port: u32,
     router: &mut Router,
 )
     requires tile { tile < tiles plan.now }
+    requires link { neighbour plan.now tile port ≡ Some from }
     requires domain { d < length plan.now.domains }
     requires port { port < ports plan.now }
     requires pulses { length pulses.now ≡ tiles plan.now }
@@ -84,32 +87,63 @@ fn give_back_at(
     ensures others { (e : ℕ) (s : Tile) → e ≢ d → Shows router.old plan.now e s → Shows router.new plan.now e s }
 {
     plan.known();
-    if let Some(from) = plan.neighbour(tile, port) {
-        let back = Way::of_port(port).opposite().port();
-        if let Some(channel) = *pulses[from as usize].at(d, back) {
-            router.restore(plan, d, port, channel);
-        }
+    let back = Way::of_port(port).opposite().port();
+    if let Some(channel) = *pulses[from as usize].at(d, back) {
+        router.restore(plan, d, port, channel);
     }
 }
 
-/// The credits of domain `d` come back to a tile.
-fn give_back_to(plan: &Plan, tile: u32, pulses: &[Lanes<Option<u32>>], d: u32, router: &mut Router)
+/// The credits of all domains come back by a port, over the link from tile `from`.
+fn give_back_from(
+    plan: &Plan,
+    tile: u32,
+    from: u32,
+    pulses: &[Lanes<Option<u32>>],
+    port: u32,
+    router: &mut Router,
+)
     requires tile { tile < tiles plan.now }
-    requires domain { d < length plan.now.domains }
+    requires link { neighbour plan.now tile port ≡ Some from }
+    requires port { port < ports plan.now }
     requires pulses { length pulses.now ≡ tiles plan.now }
     requires pulse_ports { (m : ℕ) → m < tiles plan.now → HasPorts plan.now (pulses_of pulses.now m) }
     requires made { IsMade router.old plan.now }
-    requires room { (port w : ℕ) → port < ports plan.now → credit_at plan.now d tile pulses.now port ≡ Some w
+    requires room { (d w : ℕ) → d < length plan.now.domains → credit_at plan.now d tile pulses.now port ≡ Some w
         → (w < link_channels plan.now d)
         × (count_at router.old.credits d (place plan.now d port w) < plan.now.buffer) }
     ensures rest { router.new ≡ record router.old { credits = router.new.credits } }
     ensures made { IsMade router.new plan.now }
-    ensures own { (s : Tile) → Shows router.old plan.now d s
-        → Shows router.new plan.now d (repaid (credit_at plan.now d tile pulses.now) (ports plan.now) s) }
-    ensures others { (e : ℕ) (s : Tile) → e ≢ d → Shows router.old plan.now e s → Shows router.new plan.now e s }
+    ensures shows { (d : ℕ) (s : Tile) → d < length plan.now.domains → Shows router.old plan.now d s
+        → Shows router.new plan.now d (returned port (credit_at plan.now d tile pulses.now port) s) }
 {
-    for port in 0..plan.ports() {
-        give_back_at(plan, tile, pulses, d, port, router);
+    for d in 0..plan.domains() {
+        give_back_at(plan, tile, from, pulses, d, port, router);
+    }
+}
+
+/// The credits of all domains come back by a port, if it has a link.
+fn give_back_by(
+    plan: &Plan,
+    tile: u32,
+    pulses: &[Lanes<Option<u32>>],
+    port: u32,
+    router: &mut Router,
+)
+    requires tile { tile < tiles plan.now }
+    requires port { port < ports plan.now }
+    requires pulses { length pulses.now ≡ tiles plan.now }
+    requires pulse_ports { (m : ℕ) → m < tiles plan.now → HasPorts plan.now (pulses_of pulses.now m) }
+    requires made { IsMade router.old plan.now }
+    requires room { (d w : ℕ) → d < length plan.now.domains → credit_at plan.now d tile pulses.now port ≡ Some w
+        → (w < link_channels plan.now d)
+        × (count_at router.old.credits d (place plan.now d port w) < plan.now.buffer) }
+    ensures rest { router.new ≡ record router.old { credits = router.new.credits } }
+    ensures made { IsMade router.new plan.now }
+    ensures shows { (d : ℕ) (s : Tile) → d < length plan.now.domains → Shows router.old plan.now d s
+        → Shows router.new plan.now d (returned port (credit_at plan.now d tile pulses.now port) s) }
+{
+    if let Some(from) = plan.neighbour(tile, port) {
+        give_back_from(plan, tile, from, pulses, port, router);
     }
 }
 
@@ -127,7 +161,7 @@ pub(crate) fn give_back(plan: &Plan, tile: u32, pulses: &[Lanes<Option<u32>>], r
     ensures shows { (d : ℕ) (s : Tile) → d < length plan.now.domains → Shows router.old plan.now d s
         → Shows router.new plan.now d (repaid (credit_at plan.now d tile pulses.now) (ports plan.now) s) }
 {
-    for d in 0..plan.domains() {
-        give_back_to(plan, tile, pulses, d, router);
+    for port in 0..plan.ports() {
+        give_back_by(plan, tile, pulses, port, router);
     }
 }

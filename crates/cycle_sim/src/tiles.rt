@@ -4,7 +4,7 @@ ghost use Rattle.std.specs.Prelude.{◌≡◌, ◌<◌, ◌*◌, ℕ, length, So
 ghost use Rattle.noc_model.specs.Plan.{tiles, ports};
 ghost use Rattle.router_core.specs.declared.router.RouterOut.{RouterOut as Out};
 ghost use Rattle.router_core.specs.Parts.{Parts};
-ghost use Rattle.cycle_sim.specs.TileCycle.{ArePulses, MayStep, HasStepped};
+ghost use Rattle.cycle_sim.specs.TileCycle.{AreAllPulses, MayStep, HasStepped};
 ghost use Rattle.cycle_sim.specs.Net.{IsRouterOf};
 
 use crate::links::{give_back, receive};
@@ -26,7 +26,7 @@ fn step_tile(
 )
     requires tile { tile < tiles plan.now }
     requires rows { length rows.now ≡ tiles plan.now * ports plan.now }
-    requires pulses { ArePulses plan.now pulses.now }
+    requires pulses { AreAllPulses plan.now pulses.now }
     requires router { IsRouterOf plan.now tile cycle router.old }
     requires links { length out.old.links.items ≡ ports plan.now }
     requires may { (d : ℕ) → d < length plan.now.domains
@@ -50,7 +50,7 @@ pub(crate) fn step_tiles(
     outs: &mut Vec<RouterOut>,
 )
     requires rows { length rows.now ≡ tiles plan.now * ports plan.now }
-    requires pulses { ArePulses plan.now pulses.now }
+    requires pulses { AreAllPulses plan.now pulses.now }
     requires routers { length routers.old.items ≡ tiles plan.now }
     requires outs { length outs.old.items ≡ tiles plan.now }
     requires router { (n : ℕ) (r : Parts) → slice_get routers.old.items n ≡ Some r → IsRouterOf plan.now n cycle r }

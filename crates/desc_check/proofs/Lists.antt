@@ -30,7 +30,8 @@ holds true fault h = refl
 holds false fault h = absurd (cc)
 
 -- no fault along a list, so none at each place
-pub none_at : {A : Type 0} (f : ℕ → A → Option DescFault) (n : ℕ) (xs : List A) → first_at f n xs ≡ None → (k : ℕ) (d : A) → k < length xs → f (n + k) (get_or xs k d) ≡ None
+pub none_at : {A : Type 0} (f : ℕ → A → Option DescFault) (n : ℕ) (xs : List A) → first_at f n xs ≡ None
+    → (k : ℕ) (d : A) → k < length xs → f (n + k) (get_or xs k d) ≡ None
 none_at f n [] h k d less = absurd (omega arith)
 none_at {A} f n (x ∷ xs) h zero d less =
     let same : n ≡ n + 0 = omega arith in

@@ -18,7 +18,8 @@ abbrev both : List DraftDomain
 both = domain (codes "a") ∷ domain (codes "b") ∷ []
 
 abbrev on_both : List DraftTile
-on_both = record { at = pos 0; domains = codes "a" ∷ codes "b" ∷ [] } ∷ record { at = pos 1; domains = codes "a" ∷ codes "b" ∷ [] } ∷ []
+on_both =
+    record { at = pos 0; domains = codes "a" ∷ codes "b" ∷ [] } ∷ record { at = pos 1; domains = codes "a" ∷ codes "b" ∷ [] } ∷ []
 
 abbrev low : DraftRange
 low = record { tile = pos 0; first = pos 0; last = pos 255 }

@@ -34,7 +34,9 @@ use Rattle.desc_check.proofs.Judged.{both, denied, second, good_name, good_chann
 -- ---- numbers and names
 
 pub between : (low high n : ℕ) → is_between low high n ≡ true → (low ≤ n) × (n ≤ high)
-between low high n h = let parts = both (nat_le low n) (nat_le n high) h in (grind (arith, nat_tests), grind (arith, nat_tests))
+between low high n h =
+    let parts = both (nat_le low n) (nat_le n high) h in
+    (grind (arith, nat_tests), grind (arith, nat_tests))
 
 pub within : (low high : ℕ) (z : ℤ) → is_within low high z ≡ true → (low ≤ number_of z) × (number_of z ≤ high)
 within low high (pos n) h = between low high n h
@@ -59,7 +61,9 @@ name_byte b h = grind (arith, nat_tests)
 
 bytes : (b : List ℕ) → list_all is_name_byte b ≡ true → AllByRecursion IsNameByte b
 bytes [] h = tt
-bytes (x ∷ xs) h = let parts = both (is_name_byte x) (list_all is_name_byte xs) h in (name_byte x parts.0, bytes xs parts.1)
+bytes (x ∷ xs) h =
+    let parts = both (is_name_byte x) (list_all is_name_byte xs) h in
+    (name_byte x parts.0, bytes xs parts.1)
 
 name : (b : List ℕ) → is_name b ≡ true → IsName b
 name b h =
@@ -72,11 +76,13 @@ unlike a b h = λ e. let yes : bytes_eq a b ≡ true = (bytes_eq-Decides a b).1 
 
 -- ---- lists
 
-each : {A B : Type 0} (p : A → Bool) (f : A → B) (Q : B → Type 0) → ((x : A) → p x ≡ true → Q (f x)) → (xs : List A) → list_all p xs ≡ true → AllByRecursion Q (map f xs)
+each : {A B : Type 0} (p : A → Bool) (f : A → B) (Q : B → Type 0) → ((x : A) → p x ≡ true → Q (f x)) → (xs : List A)
+    → list_all p xs ≡ true → AllByRecursion Q (map f xs)
 each p f Q says [] h = tt
 each p f Q says (x ∷ xs) h = let parts = both (p x) (list_all p xs) h in (says x parts.0, each p f Q says xs parts.1)
 
-pairs_map : {X Y : Type 0} (R : Y → Y → Type 0) (f : X → Y) (xs : List X) → AllPairs (λ x y. R (f x) (f y)) xs → AllPairs R (map f xs)
+pairs_map : {X Y : Type 0} (R : Y → Y → Type 0) (f : X → Y) (xs : List X) → AllPairs (λ x y. R (f x) (f y)) xs
+    → AllPairs R (map f xs)
 pairs_map R f [] h i j d less under = absurd (omega arith)
 pairs_map {X} {Y} R f (x ∷ xs) h i j d less under =
     let len : length (map f (x ∷ xs)) ≡ length (x ∷ xs) = length-map (x ∷ xs) f in
@@ -113,7 +119,8 @@ pub record Sided (version : ℤ) (dims : List ℤ) : Type 0 where
 
 pub sided : (version : ℤ) (dims : List ℤ) → has_sides version dims ≡ true → Sided version dims
 sided version dims h =
-    let a = both (is_between 1 (sides_allowed version) (length dims) && list_all (is_within 1 16) dims) (nat_le (tile_count dims) 256) h in
+    let a =
+    both (is_between 1 (sides_allowed version) (length dims) && list_all (is_within 1 16) dims) (nat_le (tile_count dims) 256) h in
     let b = both (is_between 1 (sides_allowed version) (length dims)) (list_all (is_within 1 16) dims) a.0 in
     let count = between 1 (sides_allowed version) (length dims) b.0 in
     let most = few_sides (int_eq version (pos 1)) in
@@ -164,12 +171,14 @@ host_before count i j some less =
       | inr not_before ↦ (let same : i / count ≡ j / count = omega arith in inr (same, (let rows : count * (i / count) ≡ count * (j / count) = ap (λ (q : ℕ). count * q) same in omega arith)))
     ]
 
-pub hosts_within : (n : ℕ) (d : Draft) → 1 ≤ length d.domains → All (λ (h : Host). (h.tile < n) × (h.domain < length d.domains)) (hosts_of n d.domains d.tiles)
+pub hosts_within : (n : ℕ) (d : Draft) → 1 ≤ length d.domains
+    → All (λ (h : Host). (h.tile < n) × (h.domain < length d.domains)) (hosts_of n d.domains d.tiles)
 hosts_within n d some =
     All-filter (λ (h : Host). is_hosted d.tiles h.tile (name_at d.domains h.domain)) (λ (h : Host). (h.tile < n) × (h.domain < length d.domains)) (map (pair_at (length d.domains)) (range_with_len 0 (n * length d.domains)))
     (All-map (λ (h : Host). (h.tile < n) × (h.domain < length d.domains)) (pair_at (length d.domains)) (range_with_len 0 (n * length d.domains)) (λ k z less.
     let len = length-range_with_len 0 (n * length d.domains) in
-    let at : get_or (range_with_len 0 (n * length d.domains)) k z ≡ 0 + k = get_or-range_with_len 0 (n * length d.domains) k z (omega arith) in
+    let at : get_or (range_with_len 0 (n * length d.domains)) k z ≡ 0 + k =
+    get_or-range_with_len 0 (n * length d.domains) k z (omega arith) in
     host_within n (length d.domains) (get_or (range_with_len 0 (n * length d.domains)) k z) some (omega arith)))
 
 pub hosts_in_order : (n : ℕ) (d : Draft) → 1 ≤ length d.domains → AllPairs IsBefore (hosts_of n d.domains d.tiles)
@@ -177,13 +186,16 @@ hosts_in_order n d some =
     AllPairs-filter IsBefore (λ (h : Host). is_hosted d.tiles h.tile (name_at d.domains h.domain)) (map (pair_at (length d.domains)) (range_with_len 0 (n * length d.domains)))
     (pairs_map IsBefore (pair_at (length d.domains)) (range_with_len 0 (n * length d.domains)) (λ i j z less under.
     let len = length-range_with_len 0 (n * length d.domains) in
-    let at_i : get_or (range_with_len 0 (n * length d.domains)) i z ≡ 0 + i = get_or-range_with_len 0 (n * length d.domains) i z (omega arith) in
-    let at_j : get_or (range_with_len 0 (n * length d.domains)) j z ≡ 0 + j = get_or-range_with_len 0 (n * length d.domains) j z (omega arith) in
+    let at_i : get_or (range_with_len 0 (n * length d.domains)) i z ≡ 0 + i =
+    get_or-range_with_len 0 (n * length d.domains) i z (omega arith) in
+    let at_j : get_or (range_with_len 0 (n * length d.domains)) j z ≡ 0 + j =
+    get_or-range_with_len 0 (n * length d.domains) j z (omega arith) in
     host_before (length d.domains) (get_or (range_with_len 0 (n * length d.domains)) i z) (get_or (range_with_len 0 (n * length d.domains)) j z) some (omega arith)))
 
 -- ---- the ranges
 
-order : (a b : ℤ) → (int_le (pos 0) a && int_le a b && int_le b (pos 4294967295)) ≡ true → (number_of a ≤ number_of b) × (number_of b < 2 ^ 32)
+order : (a b : ℤ) → (int_le (pos 0) a && int_le a b && int_le b (pos 4294967295)) ≡ true
+    → (number_of a ≤ number_of b) × (number_of b < 2 ^ 32)
 order (pos a) (pos b) h =
     let x = both (nat_le 0 a && nat_le a b) (nat_le b 4294967295) h in
     let y = both (nat_le 0 a) (nat_le a b) x.0 in
@@ -197,7 +209,9 @@ order (negsuc a) b h = absurd cc
 either_side : (a b c e : ℕ) → (nat_le a e && nat_le c b) ≡ false → (b < c) ⊎ (e < a)
 either_side a b c e h = grind (arith, nat_tests)
 
-apart : (a b c e : ℤ) → (int_le (pos 0) a && int_le a b && int_le b (pos 4294967295)) ≡ true → (int_le (pos 0) c && int_le c e && int_le e (pos 4294967295)) ≡ true → (int_le a e && int_le c b) ≡ false → (number_of b < number_of c) ⊎ (number_of e < number_of a)
+apart : (a b c e : ℤ) → (int_le (pos 0) a && int_le a b && int_le b (pos 4294967295)) ≡ true
+    → (int_le (pos 0) c && int_le c e && int_le e (pos 4294967295)) ≡ true → (int_le a e && int_le c b) ≡ false
+    → (number_of b < number_of c) ⊎ (number_of e < number_of a)
 apart (pos a) (pos b) (pos c) (pos e) h k f = either_side a b c e f
 apart (pos a) (pos b) (pos c) (negsuc e) h k f = absurd (let x = both (nat_le 0 c && false) true k in let y = both (nat_le 0 c) false x.0 in let no : false ≡ true = y.1 in cc)
 apart (pos a) (pos b) (negsuc c) e h k f = absurd cc
@@ -208,7 +222,8 @@ range_in : (n : ℕ) (x : DraftRange) → is_below n x.tile ≡ true → is_in_o
 unfolding is_in_order
 range_in n x h k = let o = order x.first x.last k in (below n x.tile h, o.0, o.1)
 
-range_apart : (i j : ℕ) (x y : DraftRange) → i < j → is_in_order x ≡ true → is_in_order y ≡ true → overlaps_later (0 + i) x (0 + j) y ≡ false → AreApart (range_of x) (range_of y)
+range_apart : (i j : ℕ) (x y : DraftRange) → i < j → is_in_order x ≡ true → is_in_order y ≡ true
+    → overlaps_later (0 + i) x (0 + j) y ≡ false → AreApart (range_of x) (range_of y)
 unfolding is_in_order overlaps_later
 range_apart i j x y less h k f =
     let up : nat_lt (0 + i) (0 + j) ≡ true = grind (arith, nat_tests) in
@@ -239,27 +254,37 @@ own n some few =
     }
 
 -- a domain of the name is found
-found_at : (xs : List DraftDomain) (written : List ℕ) (n : ℕ) → is_domain xs written ≡ true → (k : ℕ) × (k < length xs) × (position_from (λ x. bytes_eq x.name written) n xs ≡ Some (n + k))
+found_at : (xs : List DraftDomain) (written : List ℕ) (n : ℕ) → is_domain xs written ≡ true
+    → (k : ℕ) × (k < length xs) × (position_from (λ x. bytes_eq x.name written) n xs ≡ Some (n + k))
 found_at [] written n h = absurd cc
 found_at (x ∷ xs) written n h = here (bytes_eq x.name written) h (found_at xs written (n + 1))
   where
-    here : (b : Bool) → (b || is_domain xs written) ≡ true → (is_domain xs written ≡ true → (k : ℕ) × (k < length xs) × (position_from (λ x. bytes_eq x.name written) (n + 1) xs ≡ Some (n + 1 + k))) → (k : ℕ) × (k < suc (length xs)) × (cond b (Some n) (position_from (λ x. bytes_eq x.name written) (n + 1) xs) ≡ Some (n + k))
+    here : (b : Bool) → (b || is_domain xs written) ≡ true
+        → (is_domain xs written ≡ true → (k : ℕ) × (k < length xs) × (position_from (λ x. bytes_eq x.name written) (n + 1) xs ≡ Some (n + 1 + k)))
+        → (k : ℕ) × (k < suc (length xs)) × (cond b (Some n) (position_from (λ x. bytes_eq x.name written) (n + 1) xs) ≡ Some (n + k))
     here true h rest = (0, omega arith, ap (λ (m : ℕ). Some m) (let same : n ≡ n + 0 = omega arith in same))
-    here false h rest = let r = rest h in (suc r.0, omega (arith, r.1), r.2 ∙ ap (λ (m : ℕ). Some m) (let same : n + 1 + r.0 ≡ n + suc r.0 = omega arith in same))
+    here false h rest =
+        let r = rest h in
+        (suc r.0, omega (arith, r.1), r.2 ∙ ap (λ (m : ℕ). Some m) (let same : n + 1 + r.0 ≡ n + suc r.0 = omega arith in same))
 
-number_below : (xs : List DraftDomain) (written : List ℕ) → is_domain xs written ≡ true → domain_number xs written < length xs
+number_below : (xs : List DraftDomain) (written : List ℕ) → is_domain xs written ≡ true
+    → domain_number xs written < length xs
 number_below xs written h =
     let found = found_at xs written 0 h in
     let at : domain_number xs written ≡ 0 + found.0 = ap (λ (o : Option ℕ). unwrap_or o 0) found.2 in
     omega (arith, found.1, at)
 
 -- where names differ, the first domain of a domain's name is that domain
-pub found_itself : (xs : List DraftDomain) → ((i j : ℕ) (d : DraftDomain) → i < j → j < length xs → bytes_eq (get_or xs i d).name (get_or xs j d).name ≡ false) → (n k : ℕ) (d : DraftDomain) → k < length xs → position_from (λ x. bytes_eq x.name (get_or xs k d).name) n xs ≡ Some (n + k)
+pub found_itself : (xs : List DraftDomain)
+    → ((i j : ℕ) (d : DraftDomain) → i < j → j < length xs → bytes_eq (get_or xs i d).name (get_or xs j d).name ≡ false)
+    → (n k : ℕ) (d : DraftDomain) → k < length xs
+    → position_from (λ x. bytes_eq x.name (get_or xs k d).name) n xs ≡ Some (n + k)
 found_itself [] apart n k d less = absurd (omega arith)
 found_itself (x ∷ xs) apart n zero d less =
     let same : bytes_eq x.name x.name ≡ true = (bytes_eq-Decides x.name x.name).1 refl in
     let last : n ≡ n + 0 = omega arith in
-    ap (λ (b : Bool). cond b (Some n) (position_from (λ y. bytes_eq y.name x.name) (n + 1) xs)) same ∙ ap (λ (m : ℕ). Some m) last
+    ap (λ (b : Bool). cond b (Some n) (position_from (λ y. bytes_eq y.name x.name) (n + 1) xs)) same
+    ∙ ap (λ (m : ℕ). Some m) last
 found_itself (x ∷ xs) apart n (suc k) d less =
     let other : bytes_eq x.name (get_or xs k d).name ≡ false = apart 0 (suc k) d (omega arith) less in
     let last : n + 1 + k ≡ n + suc k = omega arith in
@@ -267,18 +292,23 @@ found_itself (x ∷ xs) apart n (suc k) d less =
     ∙ found_itself xs (λ i j z below under. apart (suc i) (suc j) z (omega arith) (omega arith)) (n + 1) k d (omega arith)
     ∙ ap (λ (m : ℕ). Some m) last
 
-listed : (version : ℤ) (xs : List DraftDomain) (slots : List (List ℕ)) → domain_twice_fault xs ≡ None → int_eq version (pos 2) ≡ true → slot_count_fault version slots ≡ None → slot_unknown_fault xs slots ≡ None → slot_missing_fault version xs slots ≡ None → Served (length xs) (map (domain_number xs) slots)
+listed : (version : ℤ) (xs : List DraftDomain) (slots : List (List ℕ)) → domain_twice_fault xs ≡ None
+    → int_eq version (pos 2) ≡ true → slot_count_fault version slots ≡ None → slot_unknown_fault xs slots ≡ None
+    → slot_missing_fault version xs slots ≡ None → Served (length xs) (map (domain_number xs) slots)
 listed version xs slots twice two count known missing =
-    let size = between 1 64 (length slots) (denied _ (second (int_eq version (pos 2)) (not (is_between 1 64 (length slots))) (holds_not _ SlotCount count) two)) in
+    let size =
+    between 1 64 (length slots) (denied _ (second (int_eq version (pos 2)) (not (is_between 1 64 (length slots))) (holds_not _ SlotCount count) two)) in
     let len : length (map (domain_number xs) slots) ≡ length slots = length-map slots (domain_number xs) in
     record {
       count = (omega arith, omega arith);
       known = All-map (λ (d : ℕ). d < length xs) (domain_number xs) slots (λ k z less. number_below xs (get_or slots k z) (slot_known xs slots known k z less));
       each = λ d less.
           let z : DraftDomain = record { name = []; channels = pos 0 } in
-          let at = Any-from_list_any (λ other. bytes_eq other (get_or xs d z).name) slots (has_slot version xs slots missing two d z less) in
+          let at =
+          Any-from_list_any (λ other. bytes_eq other (get_or xs d z).name) slots (has_slot version xs slots missing two d z less) in
           let same : at.1 ≡ (get_or xs d z).name = (bytes_eq-Decides at.1 (get_or xs d z).name).0 at.4 in
-          let itself : domain_number xs (get_or xs d z).name ≡ d = ap (λ (o : Option ℕ). unwrap_or o 0) (found_itself xs (names_apart xs twice) 0 d z less) ∙ zero-add d in
+          let itself : domain_number xs (get_or xs d z).name ≡ d =
+          ap (λ (o : Option ℕ). unwrap_or o 0) (found_itself xs (names_apart xs twice) 0 d z less) ∙ zero-add d in
           (at.0, omega (arith, at.2), get_or-map (domain_number xs) slots at.0 at.1 d at.2 ∙ ap (domain_number xs) (at.3 ∙ same) ∙ itself);
     }
 
@@ -291,11 +321,13 @@ two_of (pos n) h k =
     ]
 two_of (negsuc n) h k = absurd cc
 
-chosen : (b : Bool) (n : ℕ) (s t : List ℕ) → (b ≡ true → Served n s) → (b ≡ false → Served n t) → Served n (if b then s else t)
+chosen : (b : Bool) (n : ℕ) (s t : List ℕ) → (b ≡ true → Served n s) → (b ≡ false → Served n t)
+    → Served n (if b then s else t)
 chosen true n s t x y = x refl
 chosen false n s t x y = y refl
 
-served : (d : Draft) → form_fault d ≡ None → domains_fault d ≡ None → slots_fault d ≡ None → Served (length d.domains) (slots_of d.version d.domains d.slots)
+served : (d : Draft) → form_fault d ≡ None → domains_fault d ≡ None → slots_fault d ≡ None
+    → Served (length d.domains) (slots_of d.version d.domains d.slots)
 served d h k f =
     let parts = parted d k in
     let a = neither (slot_count_fault d.version d.slots) _ f in

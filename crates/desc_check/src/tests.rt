@@ -149,7 +149,8 @@ fn answers_the_first_fault(rt: HostRuntime) -> Result<(), Fail> {
             MESH_OF_TWO,
             SIZES,
             BOTH,
-            "tile = [{at = 0, domains = [\"x\", \"b\"]}]\nrange = [{tile = 0, first = 0, last = 0xff}, {tile = 1, first = 0x80, last = 0x1ff}]\n",
+            "tile = [{at = 0, domains = [\"x\", \"b\"]}]\n\
+             range = [{tile = 0, first = 0, last = 0xff}, {tile = 1, first = 0x80, last = 0x1ff}]\n",
             "fault 16 0 0",
         ),
         (
@@ -201,8 +202,8 @@ fn answers_the_first_fault(rt: HostRuntime) -> Result<(), Fail> {
 #[test]
 fn accepts_up_to_the_places(rt: HostRuntime) -> Result<(), Fail> {
     let alloc = rt.alloc();
-    let four =
-        "domain = [{name = \"d0\", channels = 2}, {name = \"d1\", channels = 2}, {name = \"d2\", channels = 2}, {name = \"d3\", channels = 2}]\n";
+    let four = "domain = [{name = \"d0\", channels = 2}, {name = \"d1\", channels = 2}, \
+         {name = \"d2\", channels = 2}, {name = \"d3\", channels = 2}]\n";
     for (front, sizes, domains, line) in [
         (
             MESH_OF_ONE,
@@ -239,8 +240,9 @@ fn accepts_up_to_the_places(rt: HostRuntime) -> Result<(), Fail> {
 #[test]
 fn orders_attachments_and_slots(rt: HostRuntime) -> Result<(), Fail> {
     let alloc = rt.alloc();
-    let rest =
-        "slots = [\"b\", \"a\", \"b\"]\ntile = [{at = 1, domains = [\"b\", \"a\"]}, {at = 0, domains = [\"b\"]}]\nrange = [{tile = 1, first = 4, last = 4294967295}]\n";
+    let rest = "slots = [\"b\", \"a\", \"b\"]\n\
+         tile = [{at = 1, domains = [\"b\", \"a\"]}, {at = 0, domains = [\"b\"]}]\n\
+         range = [{tile = 1, first = 4, last = 4294967295}]\n";
     let text = format!(in alloc; "{WEIGHTED}{SIZES}{BOTH}{rest}")?;
     let plan = check(alloc, read_draft(alloc, text.as_bytes())?)?;
     assert_eq!(rt; plan.attach_count(), 3);

@@ -121,8 +121,8 @@ fn values_of(alloc: Global, plan: &Plan) -> Result<Draft, AllocError>
     })
 }
 
-/// The draft of version 2 that says the plan: its tiles are those that host a domain, its slots the plan's, in order. So
-/// to upgrade a description is harmless: the draft is accepted, and its plan is the same plan.
+/// The draft of version 2 that says the plan: its tiles are those that host a domain, its slots the plan's, in order.
+/// So to upgrade a description is harmless: the draft is accepted, and its plan is the same plan.
 ///
 /// # Errors
 ///

@@ -14,9 +14,12 @@ use Rattle.domain_xbar.specs.Crossed.{AreSingle, IsInput, IsGranted, flit_of, li
 -- ---- one entry is written
 
 get-same : {T : Type 0} (xs : List T) (k : ℕ) (x : T) → k < length xs → slice_get (set xs k x) k ≡ Some x
-get-same xs k x there = slice_get-get_or (set xs k x) k x (let e = length-set xs k x in omega (arith, e, there)) ∙ ap Some (get_or-set_same xs k x x there)
+get-same xs k x there =
+    slice_get-get_or (set xs k x) k x (let e = length-set xs k x in omega (arith, e, there))
+    ∙ ap Some (get_or-set_same xs k x x there)
 
-get-other : {T : Type 0} (xs : List T) (k j : ℕ) (x y : T) → j ≢ k → slice_get xs j ≡ Some y → slice_get (set xs k x) j ≡ Some y
+get-other : {T : Type 0} (xs : List T) (k j : ℕ) (x y : T) → j ≢ k → slice_get xs j ≡ Some y
+    → slice_get (set xs k x) j ≡ Some y
 get-other [] k j x y apart at = absurd (cc at)
 get-other (z ∷ zs) zero zero x y apart at = absurd (apart refl)
 get-other (z ∷ zs) zero (suc j) x y apart at = at
@@ -56,7 +59,8 @@ module _ (p : Plan) (grants : List (List (Option Grant))) (fronts : List (List (
     (m q : ℕ) (here : IsInput p m q) (single : AreSingle p grants) (many_links : length links ≡ ports p) (many_eject : length eject ≡ length p.domains)
     (have : HaveCrossed (IsBefore p m q) p grants fronts links eject) where
   -- an input port with no grant
-  pub crossed-none : slice_get (lane grants m) q ≡ Some None → HaveCrossed (IsBefore p m (q + 1)) p grants fronts links eject
+  pub crossed-none : slice_get (lane grants m) q ≡ Some None
+      → HaveCrossed (IsBefore p m (q + 1)) p grants fronts links eject
   crossed-none none = record {
     link = λ d port g moved is apart. have.link d port g (old d port g moved is) is apart;
     no_link = λ o there not. have.no_link o there (λ d port g moved is apart. not d port g (before-more p m q d port moved) is apart);
@@ -80,7 +84,8 @@ module _ (p : Plan) (grants : List (List (Option Grant))) (fronts : List (List (
     same-grant d port h e f at =
         let both : Some (Some h) ≡ Some (Some g) = sym at ∙ ap (λ k. slice_get (lane grants d) k) f ∙ ap (λ k. slice_get (lane grants k) q) e ∙ is in cc both
 
-    to-link : g.out ≢ 0 → HaveCrossed (IsBefore p m (q + 1)) p grants fronts (slice_set links g.out (with_channel g.to flit)) eject
+    to-link : g.out ≢ 0
+        → HaveCrossed (IsBefore p m (q + 1)) p grants fronts (slice_set links g.out (with_channel g.to flit)) eject
     to-link apart = record {
       link = λ d port h moved at away. ⊎_elim
           (λ (b : IsBefore p m q d port).
@@ -89,9 +94,12 @@ module _ (p : Plan) (grants : List (List (Option Grant))) (fronts : List (List (
           (have.link d port h b at away))
           (λ (e : (d ≡ m) × (port ≡ q)).
           let same = same-grant d port h e.0 e.1 at in
-          let P : Grant → Type 0 = λ k. slice_get (slice_set links g.out (with_channel g.to flit)) k.out ≡ Some (with_channel k.to (flit_of p fronts d port k)) in
-          let Q : ℕ → Type 0 = λ k. slice_get (slice_set links g.out (with_channel g.to flit)) g.out ≡ Some (with_channel g.to (flit_of p fronts k port g)) in
-          let R : ℕ → Type 0 = λ k. slice_get (slice_set links g.out (with_channel g.to flit)) g.out ≡ Some (with_channel g.to (flit_of p fronts m k g)) in
+          let P : Grant → Type 0 =
+          λ k. slice_get (slice_set links g.out (with_channel g.to flit)) k.out ≡ Some (with_channel k.to (flit_of p fronts d port k)) in
+          let Q : ℕ → Type 0 =
+          λ k. slice_get (slice_set links g.out (with_channel g.to flit)) g.out ≡ Some (with_channel g.to (flit_of p fronts k port g)) in
+          let R : ℕ → Type 0 =
+          λ k. slice_get (slice_set links g.out (with_channel g.to flit)) g.out ≡ Some (with_channel g.to (flit_of p fronts m k g)) in
           subst P (sym same) (subst Q (sym e.0) (subst R (sym e.1) (get-same links g.out (with_channel g.to flit) (omega (arith, many_links, within))))))
           (before-or p m q d port moved);
       no_link = λ o there not.
@@ -135,10 +143,12 @@ module _ (p : Plan) (grants : List (List (Option Grant))) (fronts : List (List (
           (have.no_local d there (λ port h moved at. not port h (before-more p m q d port moved) at));
     }
 
-    pub crossed-some : (f : Option Flit) → f ≡ flit → (vs : List (Option LinkFlit)) (ws : List (Option Flit)) → vs ≡ linked g f links → ws ≡ ejected m g f eject
+    pub crossed-some : (f : Option Flit) → f ≡ flit → (vs : List (Option LinkFlit)) (ws : List (Option Flit))
+        → vs ≡ linked g f links → ws ≡ ejected m g f eject
         → HaveCrossed (IsBefore p m (q + 1)) p grants fronts vs ws
     crossed-some f is_flit vs ws ev ew =
-        let P : List (Option LinkFlit) → List (Option Flit) → Type 0 = λ a b. HaveCrossed (IsBefore p m (q + 1)) p grants fronts a b in
+        let P : List (Option LinkFlit) → List (Option Flit) → Type 0 =
+        λ a b. HaveCrossed (IsBefore p m (q + 1)) p grants fronts a b in
         let lv : vs ≡ linked g flit links = ev ∙ ap (λ k. linked g k links) is_flit in
         let lw : ws ≡ ejected m g flit eject = ew ∙ ap (λ k. ejected m g k eject) is_flit in
         ⊎_elim
@@ -152,8 +162,10 @@ module _ (p : Plan) (grants : List (List (Option Grant))) (fronts : List (List (
 
 -- ---- from domain to domain
 
-pub crossed-as : (V W : ℕ → ℕ → Type 0) (p : Plan) (grants : List (List (Option Grant))) (fronts : List (List (Option Flit))) (links : List (Option LinkFlit)) (eject : List (Option Flit))
-    → ((d port : ℕ) → V d port → W d port) → ((d port : ℕ) → W d port → V d port) → HaveCrossed V p grants fronts links eject → HaveCrossed W p grants fronts links eject
+pub crossed-as : (V W : ℕ → ℕ → Type 0) (p : Plan) (grants : List (List (Option Grant)))
+    (fronts : List (List (Option Flit))) (links : List (Option LinkFlit)) (eject : List (Option Flit))
+    → ((d port : ℕ) → V d port → W d port) → ((d port : ℕ) → W d port → V d port)
+    → HaveCrossed V p grants fronts links eject → HaveCrossed W p grants fronts links eject
 crossed-as V W p grants fronts links eject to from have = record {
   link = λ d port g moved is apart. have.link d port g (from d port moved) is apart;
   no_link = λ o there not. have.no_link o there (λ d port g moved is apart. not d port g (to d port moved) is apart);
@@ -161,8 +173,10 @@ crossed-as V W p grants fronts links eject to from have = record {
   no_local = λ d there not. have.no_local d there (λ port g moved is. not port g (to d port moved) is);
 }
 
-pub crossed-start : (p : Plan) (grants : List (List (Option Grant))) (fronts : List (List (Option Flit))) (links : List (Option LinkFlit)) (eject : List (Option Flit))
-    → ((k : ℕ) → k < ports p → slice_get links k ≡ Some None) → ((k : ℕ) → k < length p.domains → slice_get eject k ≡ Some None)
+pub crossed-start : (p : Plan) (grants : List (List (Option Grant))) (fronts : List (List (Option Flit)))
+    (links : List (Option LinkFlit)) (eject : List (Option Flit))
+    → ((k : ℕ) → k < ports p → slice_get links k ≡ Some None)
+    → ((k : ℕ) → k < length p.domains → slice_get eject k ≡ Some None)
     → HaveCrossed (IsBefore p 0 0) p grants fronts links eject
 crossed-start p grants fronts links eject no_links no_eject = record {
   link = λ d port g moved is apart. absurd (none d port moved);
@@ -175,8 +189,10 @@ crossed-start p grants fronts links eject no_links no_eject = record {
     none d port (inside, inl less) = omega (arith, less)
     none d port (inside, inr at) = let l = at.1 in omega (arith, l)
 
-pub crossed-domain : (p : Plan) (grants : List (List (Option Grant))) (fronts : List (List (Option Flit))) (links : List (Option LinkFlit)) (eject : List (Option Flit)) (m : ℕ)
-    → HaveCrossed (IsBefore p m (ports p)) p grants fronts links eject → HaveCrossed (IsBefore p (m + 1) 0) p grants fronts links eject
+pub crossed-domain : (p : Plan) (grants : List (List (Option Grant))) (fronts : List (List (Option Flit)))
+    (links : List (Option LinkFlit)) (eject : List (Option Flit)) (m : ℕ)
+    → HaveCrossed (IsBefore p m (ports p)) p grants fronts links eject
+    → HaveCrossed (IsBefore p (m + 1) 0) p grants fronts links eject
 crossed-domain p grants fronts links eject m have = crossed-as (IsBefore p m (ports p)) (IsBefore p (m + 1) 0) p grants fronts links eject to from have
   where
     to : (d port : ℕ) → IsBefore p m (ports p) d port → IsBefore p (m + 1) 0 d port
@@ -190,20 +206,24 @@ crossed-domain p grants fronts links eject m have = crossed-as (IsBefore p m (po
         (cases_lt d m)
     from d port (inside, inr at) = absurd (let l = at.1 in omega (arith, l))
 
-pub crossed-end : (p : Plan) (grants : List (List (Option Grant))) (fronts : List (List (Option Flit))) (links : List (Option LinkFlit)) (eject : List (Option Flit)) (m : ℕ) → length p.domains ≤ m
+pub crossed-end : (p : Plan) (grants : List (List (Option Grant))) (fronts : List (List (Option Flit)))
+    (links : List (Option LinkFlit)) (eject : List (Option Flit)) (m : ℕ)
+    → length p.domains ≤ m
     → HaveCrossed (IsBefore p m 0) p grants fronts links eject → HaveCrossed (IsInput p) p grants fronts links eject
 crossed-end p grants fronts links eject m all have = crossed-as (IsBefore p m 0) (IsInput p) p grants fronts links eject
     (λ d port b. b.0) (λ d port inside. (inside, inl (let a = inside.0 in let l : d < m = omega (arith, all, a) in l))) have
 
 -- no entry is added
-pub linked-long : (g : Grant) (f : Option Flit) (links : List (Option LinkFlit)) → length (linked g f links) ≡ length links
+pub linked-long : (g : Grant) (f : Option Flit) (links : List (Option LinkFlit))
+    → length (linked g f links) ≡ length links
 linked-long g f links = go g.out
   where
     go : (o : ℕ) → length (at_local o links (slice_set links o (with_channel g.to f))) ≡ length links
     go zero = refl
     go (suc o) = length-set links (suc o) (with_channel g.to f)
 
-pub ejected-long : (d : ℕ) (g : Grant) (f : Option Flit) (eject : List (Option Flit)) → length (ejected d g f eject) ≡ length eject
+pub ejected-long : (d : ℕ) (g : Grant) (f : Option Flit) (eject : List (Option Flit))
+    → length (ejected d g f eject) ≡ length eject
 ejected-long d g f eject = go g.out
   where
     go : (o : ℕ) → length (at_local o (slice_set eject d f) eject) ≡ length eject

@@ -17,20 +17,25 @@ use Rattle.vc_partition.specs.Lanes.{lane}
 use Rattle.domain_xbar.specs.Crossed.{IsInput, IsGranted, flit_of, flit_alone, HaveCrossed, IsShown, HaveSent}
 
 -- a link takes a flit of its owner alone
-takes-owner : (p : Plan) (d n : ℕ) (t : ℤ) (s : Tile) (i : TileIn) (o w : ℕ) → o ≢ 0 → takes p d n t s i o w ≡ true → owner p n o t ≡ d
+takes-owner : (p : Plan) (d n : ℕ) (t : ℤ) (s : Tile) (i : TileIn) (o w : ℕ) → o ≢ 0 → takes p d n t s i o w ≡ true
+    → owner p n o t ≡ d
 unfolding takes
 takes-owner p d n t s i zero w link e = absurd (link refl)
 takes-owner p d n t s i (suc o) w link e = grind (arith, nat_tests)
 
-grant-owner : (p : Plan) (d n : ℕ) (t : ℤ) (s : Tile) (i : TileIn) (port o : ℕ) (g : Grant) → grant p d n t s i port ≡ Some g → g.out ≡ o → o ≢ 0 → owner p n o t ≡ d
+grant-owner : (p : Plan) (d n : ℕ) (t : ℤ) (s : Tile) (i : TileIn) (port o : ℕ) (g : Grant)
+    → grant p d n t s i port ≡ Some g → g.out ≡ o → o ≢ 0 → owner p n o t ≡ d
 grant-owner p d n t s i port o g is out link =
     takes-owner p d n t s i o g.to link (ap (λ k. takes p d n t s i k g.to) (sym out) ∙ (grant-ready p d n t s i port g is).taken)
 
-pub one-domain : (p : Plan) (d e n port q o : ℕ) (t : ℤ) (s r : Tile) (i j : TileIn) (g h : Grant) → grant p d n t s i port ≡ Some g → grant p e n t r j q ≡ Some h
+pub one-domain : (p : Plan) (d e n port q o : ℕ) (t : ℤ) (s r : Tile) (i j : TileIn) (g h : Grant)
+    → grant p d n t s i port ≡ Some g → grant p e n t r j q ≡ Some h
     → g.out ≡ o → h.out ≡ o → o ≢ 0 → d ≡ e
-one-domain p d e n port q o t s r i j g h is at out here link = sym (grant-owner p d n t s i port o g is out link) ∙ grant-owner p e n t r j q o h at here link
+one-domain p d e n port q o t s r i j g h is at out here link =
+    sym (grant-owner p d n t s i port o g is out link) ∙ grant-owner p e n t r j q o h at here link
 
-pub one-port : (p : Plan) (d n port q o : ℕ) (t : ℤ) (s : Tile) (i : TileIn) (g h : Grant) → grant p d n t s i port ≡ Some g → grant p d n t s i q ≡ Some h
+pub one-port : (p : Plan) (d n port q o : ℕ) (t : ℤ) (s : Tile) (i : TileIn) (g h : Grant)
+    → grant p d n t s i port ≡ Some g → grant p d n t s i q ≡ Some h
     → g.out ≡ o → h.out ≡ o → port ≡ q
 one-port p d n port q o t s i g h is at out here =
     let both : Some port ≡ Some q =
@@ -39,10 +44,12 @@ one-port p d n port q o t s i g h is at out here =
 module _ (p : Plan) (n : ℕ) (t : ℤ) (s : ℕ → Tile) (i : ℕ → TileIn) (grants : List (List (Option Grant))) (fronts : List (List (Option Flit)))
     (links : List (Option LinkFlit)) (eject : List (Option Flit)) (shown : IsShown p n t s i grants fronts) (have : HaveCrossed (IsInput p) p grants fronts links eject) where
   -- a grant of the lists is one of the definition
-  granted : (d port : ℕ) (g : Grant) → IsInput p d port → IsGranted grants d port g → grant p d n t (s d) (i d) port ≡ Some g
+  granted : (d port : ℕ) (g : Grant) → IsInput p d port → IsGranted grants d port g
+      → grant p d n t (s d) (i d) port ≡ Some g
   granted d port g inside is = let both : Some (grant p d n t (s d) (i d) port) ≡ Some (Some g) = sym (shown.granted d port inside) ∙ is in cc both
 
-  flit-is : (d port : ℕ) (g : Grant) → IsInput p d port → grant p d n t (s d) (i d) port ≡ Some g → flit_of p fronts d port g ≡ front ((s d).queue port g.channel)
+  flit-is : (d port : ℕ) (g : Grant) → IsInput p d port → grant p d n t (s d) (i d) port ≡ Some g
+      → flit_of p fronts d port g ≡ front ((s d).queue port g.channel)
   flit-is d port g inside is =
       get_or_from_slice_get (lane fronts d) (place p d port g.channel) (front ((s d).queue port g.channel)) None
       (shown.flit d port g.channel inside (grant-ready p d n t (s d) (i d) port g is).in_range)
@@ -51,14 +58,16 @@ module _ (p : Plan) (n : ℕ) (t : ℤ) (s : ℕ → Tile) (i : ℕ → TileIn) 
   alone w None = refl
   alone w (Some f) = refl
 
-  link-of : (d o : ℕ) → d < length p.domains → o < ports p → o ≢ 0 → owner p n o t ≡ d → (x : Option LinkFlit) → sent p d n t (s d) (i d) o ≡ x → slice_get links o ≡ Some x
+  link-of : (d o : ℕ) → d < length p.domains → o < ports p → o ≢ 0 → owner p n o t ≡ d → (x : Option LinkFlit)
+      → sent p d n t (s d) (i d) o ≡ x → slice_get links o ≡ Some x
   link-of d o there inside link owns None is = have.no_link o inside
       (λ e port g moved at away here.
       let by = granted e port g moved at in
       let same : e ≡ d = sym (grant-owner p e n t (s e) (i e) port o g by here link) ∙ owns in
       let ready = grant-ready p e n t (s e) (i e) port g by in
       let some : sent p e n t (s e) (i e) o ≡ with_channel g.to (Some ready.flit) =
-      ap (sent p e n t (s e) (i e)) (sym here) ∙ granted-sent p e n t (s e) (i e) port g by ∙ ap (with_channel g.to) ready.is_front in
+      ap (sent p e n t (s e) (i e)) (sym here) ∙ granted-sent p e n t (s e) (i e) port g by
+      ∙ ap (with_channel g.to) ready.is_front in
       let none : sent p e n t (s e) (i e) o ≡ None = ap (λ k. sent p k n t (s k) (i k) o) same ∙ is in
       let bad = sym none ∙ some in absurd (cc bad))
   link-of d o there inside link owns (Some x) is =
@@ -70,13 +79,15 @@ module _ (p : Plan) (n : ℕ) (t : ℤ) (s : ℕ → Tile) (i : ℕ → TileIn) 
       ∙ ap (λ f. Some (with_channel by.by.to f)) (flit-is d by.port by.by input by.granted)
       ∙ ap Some (sym (granted-sent p d n t (s d) (i d) by.port by.by by.granted) ∙ ap (sent p d n t (s d) (i d)) by.out ∙ is)
 
-  local-of : (d : ℕ) → d < length p.domains → (x : Option LinkFlit) → sent p d n t (s d) (i d) 0 ≡ x → slice_get eject d ≡ Some (flit_alone x)
+  local-of : (d : ℕ) → d < length p.domains → (x : Option LinkFlit) → sent p d n t (s d) (i d) 0 ≡ x
+      → slice_get eject d ≡ Some (flit_alone x)
   local-of d there None is = have.no_local d there
       (λ port g moved at here.
       let by = granted d port g moved at in
       let ready = grant-ready p d n t (s d) (i d) port g by in
       let some : sent p d n t (s d) (i d) 0 ≡ with_channel g.to (Some ready.flit) =
-      ap (sent p d n t (s d) (i d)) (sym here) ∙ granted-sent p d n t (s d) (i d) port g by ∙ ap (with_channel g.to) ready.is_front in
+      ap (sent p d n t (s d) (i d)) (sym here) ∙ granted-sent p d n t (s d) (i d) port g by
+      ∙ ap (with_channel g.to) ready.is_front in
       let bad = sym is ∙ some in absurd (cc bad))
   local-of d there (Some x) is =
       let by = sent-by p d n t (s d) (i d) 0 x is in

@@ -14,22 +14,27 @@ RankRises = (p : Plan) (dest n k m : ℕ) (a b : Stop) → IsSound p → stop_at
     → neighbour p b.tile (out_of p dest b) ≡ Some m → out_rank p dest a < out_rank p dest b
 
 -- a stop after which there is another has a link
-linked : (p : Plan) (dest : ℕ) (a b : Stop) → next_stop p dest a ≡ Some b → (m : ℕ) × (neighbour p a.tile (out_of p dest a) ≡ Some m)
+linked : (p : Plan) (dest : ℕ) (a b : Stop) → next_stop p dest a ≡ Some b
+    → (m : ℕ) × (neighbour p a.tile (out_of p dest a) ≡ Some m)
 linked p dest a b e = go (neighbour p a.tile (out_of p dest a)) refl
   where
-    go : (x : Option ℕ) → neighbour p a.tile (out_of p dest a) ≡ x → (m : ℕ) × (neighbour p a.tile (out_of p dest a) ≡ Some m)
+    go : (x : Option ℕ) → neighbour p a.tile (out_of p dest a) ≡ x
+        → (m : ℕ) × (neighbour p a.tile (out_of p dest a) ≡ Some m)
     go None is = absurd cc
     go (Some m) is = (m, is)
 
 -- the stop before
-before : (p : Plan) (dest n k : ℕ) (b : Stop) → stop_at p dest n (suc k) ≡ Some b → (a : Stop) × ((stop_at p dest n k ≡ Some a) × (next_stop p dest a ≡ Some b))
+before : (p : Plan) (dest n k : ℕ) (b : Stop) → stop_at p dest n (suc k) ≡ Some b
+    → (a : Stop) × ((stop_at p dest n k ≡ Some a) × (next_stop p dest a ≡ Some b))
 before p dest n k b e = go (stop_at p dest n k) refl
   where
-    go : (x : Option Stop) → stop_at p dest n k ≡ x → (a : Stop) × ((stop_at p dest n k ≡ Some a) × (next_stop p dest a ≡ Some b))
+    go : (x : Option Stop) → stop_at p dest n k ≡ x
+        → (a : Stop) × ((stop_at p dest n k ≡ Some a) × (next_stop p dest a ≡ Some b))
     go None is = absurd cc
     go (Some a) is = (a, (is, sym (ap (option_and_then (next_stop p dest)) is) ∙ e))
 
-pub along-rises : RankRises → (p : Plan) (dest n i k m : ℕ) (a b : Stop) → IsSound p → i < k → stop_at p dest n i ≡ Some a → stop_at p dest n k ≡ Some b
+pub along-rises : RankRises → (p : Plan) (dest n i k m : ℕ) (a b : Stop) → IsSound p → i < k
+    → stop_at p dest n i ≡ Some a → stop_at p dest n k ≡ Some b
     → neighbour p b.tile (out_of p dest b) ≡ Some m → out_rank p dest a < out_rank p dest b
 along-rises law p dest n i zero m a b sound less at_i at_k link = absurd (omega (arith, less))
 along-rises law p dest n i (suc k) m a b sound less at_i at_k link =
@@ -54,7 +59,8 @@ waits-rises law p a b sound w =
     subst (λ (x : Channel). channel_rank p x < channel_rank p b) (sym w.holds)
     (subst (λ (x : Channel). channel_rank p (taken_at p w.dest w.here) < channel_rank p x) (sym w.wants) up)
 
-pub chain-rises : RankRises → (p : Plan) (a b : Channel) (between : List Channel) → IsSound p → Chain p a between b → channel_rank p a < channel_rank p b
+pub chain-rises : RankRises → (p : Plan) (a b : Channel) (between : List Channel) → IsSound p → Chain p a between b
+    → channel_rank p a < channel_rank p b
 chain-rises law p a b [] sound w = waits-rises law p a b sound w
 chain-rises law p a b (c ∷ cs) sound w =
     let one = waits-rises law p a c sound w.0 in

@@ -10,6 +10,7 @@ pub record Channel : Type 0 where
   pub out : ℕ
   pub class : ℕ
 
+-- the rank of a channel, which rises along every route
 abbrev pub channel_rank : Plan → Channel → ℕ
 channel_rank p c = rank p c.tile c.out c.class
 

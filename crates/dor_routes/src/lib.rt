@@ -16,8 +16,8 @@ pub mod laws;
 use noc_model::limits::MOST_SIDE;
 use noc_model::{Plan, Way};
 
-/// The port by which a flit for tile `dest` leaves tile `at`, the local port, 0, where it is there (dimension-order
-/// routing: Dally and Towles, section 8.4). On a torus it goes round a ring the shorter way, and by plus at a tie.
+/// The port by which a flit for tile `dest` leaves tile `at` (dimension-order routing: Dally and Towles, section 8.4):
+/// the local port, 0, at `dest` itself. On a torus it goes round a ring the shorter way, and by plus at a tie.
 pub fn route(plan: &Plan, at: u32, dest: u32) -> u32
     requires at { at < tiles plan.now }
     requires dest { dest < tiles plan.now }

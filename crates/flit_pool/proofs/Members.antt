@@ -70,20 +70,26 @@ in-gone ms size j below gone =
     let b : nat_le (link_at ms j).next size ≡ false = grind (arith, nat_tests) in
     ap (λ w. w && nat_le (link_at ms j).next size) a ∙ b
 
-in-same : (ls ms : List Link) (size j : ℕ) → (link_at ms j).next ≡ (link_at ls j).next → is_in ms size j ≡ is_in ls size j
+in-same : (ls ms : List Link) (size j : ℕ) → (link_at ms j).next ≡ (link_at ls j).next
+    → is_in ms size j ≡ is_in ls size j
 in-same ls ms size j e = ap (λ n. nat_lt j size && nat_le n size) e
 
 module _ (ls : List Link) (size count : ℕ) (ring : IsRing ls size count) where
   pub count-few : count ≤ size
   count-few =
       let a = count-is ls size count ring in
-      let b = few-below size (members ls size count) (member-below ls size count ring) (at-most-once ls size count ring) in
+      let b =
+      few-below size (members ls size count) (member-below ls size count ring) (at-most-once ls size count ring) in
       omega (arith, a, b)
 
   -- whatever stands before a linked number is linked, or closes the ring; its link may change to another
-  still-in : (ms : List Link) (b : ℕ) → (b ≡ size) ⊎ (1 ≤ times b (members ls size count)) → (link_at ms b).next ≤ size → is_in ms size b ≡ is_in ls size b
-  still-in ms b (inl closed) linked = ap (λ k. is_in ms size k) closed ∙ in-closed ms size ∙ sym (in-closed ls size) ∙ ap (λ k. is_in ls size k) (sym closed)
-  still-in ms b (inr some) linked = in-true ms size b (member-below ls size count ring b some) linked ∙ sym (member-in ls size count ring b some)
+  still-in : (ms : List Link) (b : ℕ) → (b ≡ size) ⊎ (1 ≤ times b (members ls size count)) → (link_at ms b).next ≤ size
+      → is_in ms size b ≡ is_in ls size b
+  still-in ms b (inl closed) linked =
+      ap (λ k. is_in ms size k) closed ∙ in-closed ms size ∙ sym (in-closed ls size)
+      ∙ ap (λ k. is_in ls size k) (sym closed)
+  still-in ms b (inr some) linked =
+      in-true ms size b (member-below ls size count ring b some) linked ∙ sym (member-in ls size count ring b some)
 
   last-at : ((link_at ls size).before ≡ size) ⊎ (1 ≤ times (link_at ls size).before (members ls size count))
   last-at =
@@ -98,7 +104,8 @@ module _ (ls : List Link) (size count : ℕ) (ring : IsRing ls size count) where
   pub last-within : (link_at ls size).before < length ls
   last-within = let a = at-within (link_at ls size).before last-at in omega (arith, a, ring.whole)
 
-  at-apart : (i b : ℕ) → i < size → times i (members ls size count) ≡ 0 → (b ≡ size) ⊎ (1 ≤ times b (members ls size count)) → i ≢ b
+  at-apart : (i b : ℕ) → i < size → times i (members ls size count) ≡ 0
+      → (b ≡ size) ⊎ (1 ≤ times b (members ls size count)) → i ≢ b
   at-apart i b below out (inl closed) = λ e. omega (arith, e, closed, below)
   at-apart i b below out (inr some) = λ e. apart i b (members ls size count) out some (sym e)
 
@@ -114,7 +121,8 @@ module _ (ls : List Link) (size count : ℕ) (ring : IsRing ls size count) where
     xs = members ls size count
 
     step : IsJoined ls ms last i size
-    step = is-joined ls size i (omega (arith, below, ring.whole)) (omega (arith, ring.whole)) last-within (omega (arith, below)) (at-apart i last below out last-at)
+    step =
+        is-joined ls size i (omega (arith, below, ring.whole)) (omega (arith, ring.whole)) last-within (omega (arith, below)) (at-apart i last below out last-at)
 
     join-round : Linked ms size ((xs ++ i ∷ []) ++ size ∷ [])
     join-round = join-linked ls ms size i size last xs step (last-is ls size count ring) (at-most-once ls size count ring) (closed-out ls size count ring) (closed-out ls size count ring) out
@@ -140,7 +148,8 @@ module _ (ls : List Link) (size count : ℕ) (ring : IsRing ls size count) where
         let t : (i == j) ≡ true = grind (arith, nat_tests) in
         let o = ap one_if t in
         let none : times j xs ≡ 0 = ap (λ k. times k xs) e ∙ out in
-        let m : one_if (is_in ms size j) ≡ 1 = ap (λ k. one_if (is_in ms size k)) e ∙ ap one_if (in-true ms size i below (omega (arith, step.on))) in
+        let m : one_if (is_in ms size j) ≡ 1 =
+        ap (λ k. one_if (is_in ms size k)) e ∙ ap one_if (in-true ms size i below (omega (arith, step.on))) in
         omega (arith, both, o, none, m))
         (λ w. let j_i = w.1 in
         let t : (i == j) ≡ false = grind (arith, nat_tests) in
@@ -278,7 +287,11 @@ module _ (ls : List Link) (size count i : ℕ) (us vs : List ℕ) (ring : IsRing
   b-below = let a = at-within ls size count ring b b-among in omega (arith, a)
 
   i-once : (times i us ≡ 0) × (times i vs ≡ 0)
-  i-once = let a = there i in let o = one-same i in let m = at-most-once ls size count ring i in (omega (arith, a, o, m), omega (arith, a, o, m))
+  i-once =
+      let a = there i in
+      let o = one-same i in
+      let m = at-most-once ls size count ring i in
+      (omega (arith, a, o, m), omega (arith, a, o, m))
 
   i-b : i ≢ b
   i-b = ⊎_elim (λ (closed : b ≡ size). λ (e : i ≡ b). let low = is-below in omega (arith, e, closed, low)) (λ (some : 1 ≤ times b us). λ (e : i ≡ b). apart i b us i-once.0 some (sym e)) b-at
@@ -323,9 +336,12 @@ module _ (ls : List Link) (size count i : ℕ) (us vs : List ℕ) (ring : IsRing
       let old = there j in
       ⊎_elim
       (λ w. let e : j ≡ i = w.1 in
-      let none : times j us + times j vs ≡ 0 = ap (λ k. times k us + times k vs) e ∙ (let o = i-once in omega (arith, o)) in
+      let none : times j us + times j vs ≡ 0 =
+      ap (λ k. times k us + times k vs) e ∙ (let o = i-once in omega (arith, o)) in
       let low = is-below in
-      let m : one_if (is_in part size j) ≡ 0 = ap (λ k. one_if (is_in part size k)) e ∙ ap one_if (in-gone part size i low (parted-gone ls size i (omega (arith, low, ring.whole)))) in
+      let m : one_if (is_in part size j) ≡ 0 =
+      ap (λ k. one_if (is_in part size k)) e
+      ∙ ap one_if (in-gone part size i low (parted-gone ls size i (omega (arith, low, ring.whole)))) in
       omega (arith, both, none, m))
       (λ w. let j_i = w.1 in
       let t : (i == j) ≡ false = grind (arith, nat_tests) in
@@ -352,10 +368,12 @@ pub data Follows (xs : List ℕ) (k n z : ℕ) : Type 0 where
   ends : slice_get xs (suc k) ≡ None → n ≡ z → Follows xs k n z
   goes : slice_get xs (suc k) ≡ Some n → Follows xs k n z
 
-follows : (ls : List Link) (a z i : ℕ) (xs : List ℕ) (k : ℕ) → Linked ls a (xs ++ z ∷ []) → slice_get xs k ≡ Some i → Follows xs k (link_at ls i).next z
+follows : (ls : List Link) (a z i : ℕ) (xs : List ℕ) (k : ℕ) → Linked ls a (xs ++ z ∷ []) → slice_get xs k ≡ Some i
+    → Follows xs k (link_at ls i).next z
 follows ls a z i [] k h e = absurd (cc e)
 follows ls a z i (x ∷ []) zero h e = ends refl (let at : x ≡ i = cc e in ap (λ w. (link_at ls w).next) (sym at) ∙ h.2.0)
-follows ls a z i (x ∷ y ∷ ys) zero h e = goes (let at : x ≡ i = cc e in ap Some (sym (ap (λ w. (link_at ls w).next) (sym at) ∙ h.2.0)))
+follows ls a z i (x ∷ y ∷ ys) zero h e =
+    goes (let at : x ≡ i = cc e in ap Some (sym (ap (λ w. (link_at ls w).next) (sym at) ∙ h.2.0)))
 follows ls a z i (x ∷ xs) (suc k) h e = go (follows ls x z i xs k h.2 e)
   where
     go : Follows xs k (link_at ls i).next z → Follows (x ∷ xs) (suc k) (link_at ls i).next z
@@ -374,15 +392,20 @@ pub record IsCall (ls : List Link) (size count : ℕ) (v : Numbers) : Type 0 whe
   pub size_is : size ≡ v.size
   pub items_is : members ls size count ≡ v.items
 
-pub is-call : (ls : List Link) (size count : ℕ) (v : Numbers) → IsRing ls size count → record { items = members ls size count; size = size } ≡ v → IsCall ls size count v
-is-call ls size count v ring view = record { ring = ring; size_is = ap (λ (x : Numbers). x.size) view; items_is = ap (λ (x : Numbers). x.items) view }
+pub is-call : (ls : List Link) (size count : ℕ) (v : Numbers) → IsRing ls size count
+    → record { items = members ls size count; size = size } ≡ v → IsCall ls size count v
+is-call ls size count v ring view =
+    record { ring = ring; size_is = ap (λ (x : Numbers). x.size) view; items_is = ap (λ (x : Numbers). x.items) view }
 
 module _ {ls : List Link} {size count : ℕ} {v : Numbers} (call : IsCall ls size count v) (i : ℕ) where
   pub absent-out : has v i ≡ false → times i (members ls size count) ≡ 0
   absent-out absent = ap (times i) call.items_is ∙ none-times i v.items absent
 
   pub present-some : has v i ≡ true → 1 ≤ times i (members ls size count)
-  present-some present = let a = some-times i v.items present in let e = ap (times i) call.items_is in omega (arith, a, e)
+  present-some present =
+      let a = some-times i v.items present in
+      let e = ap (times i) call.items_is in
+      omega (arith, a, e)
 
   pub present-below : has v i ≡ true → i < size
   present-below present = member-below ls size count call.ring i (present-some present)
@@ -390,38 +413,51 @@ module _ {ls : List Link} {size count : ℕ} {v : Numbers} (call : IsCall ls siz
   pub holds-value : i < v.size → nat_le (link_at ls i).next size ≡ has v i
   holds-value below =
       let low : nat_lt i size ≡ true = let e = call.size_is in let a : i < size = omega (arith, e, below) in grind (arith, nat_tests) in
-      let mark : is_in ls size i ≡ nat_le (link_at ls i).next size = ap (λ w. w && nat_le (link_at ls i).next size) low in
-      sym mark ∙ one-back (is_in ls size i) ∙ ap (nat_le 1) (sym (call.ring.once i)) ∙ sym (times-some i (members ls size count)) ∙ ap (list_any (λ k. k == i)) call.items_is
+      let mark : is_in ls size i ≡ nat_le (link_at ls i).next size =
+      ap (λ w. w && nat_le (link_at ls i).next size) low in
+      sym mark ∙ one-back (is_in ls size i) ∙ ap (nat_le 1) (sym (call.ring.once i))
+      ∙ sym (times-some i (members ls size count)) ∙ ap (list_any (λ k. k == i)) call.items_is
     where
       one-back : (b : Bool) → b ≡ nat_le 1 (one_if b)
       one-back true = let t : nat_le 1 1 ≡ true = grind (arith, nat_tests) in sym t
       one-back false = let t : nat_le 1 0 ≡ false = grind (arith, nat_tests) in sym t
 
   pub after-value : (k : ℕ) → slice_get v.items k ≡ Some i → Follows (members ls size count) k (link_at ls i).next size
-  after-value k at = follows ls size size i (members ls size count) k call.ring.round (ap (λ w. slice_get w k) call.items_is ∙ at)
+  after-value k at =
+      follows ls size size i (members ls size count) k call.ring.round (ap (λ w. slice_get w k) call.items_is ∙ at)
 
-  pub after-none : (k : ℕ) → slice_get v.items k ≡ Some i → (link_at ls i).next ≡ size → None ≡ slice_get v.items (k + 1)
+  pub after-none : (k : ℕ) → slice_get v.items k ≡ Some i → (link_at ls i).next ≡ size
+      → None ≡ slice_get v.items (k + 1)
   after-none k at end = go (after-value k at)
     where
       go : Follows (members ls size count) k (link_at ls i).next size → None ≡ slice_get v.items (k + 1)
-      go (ends none is) = sym none ∙ ap (slice_get (members ls size count)) (let e : suc k ≡ k + 1 = omega arith in e) ∙ ap (λ w. slice_get w (k + 1)) call.items_is
-      go (goes some) = absurd (let low = member-below ls size count call.ring (link_at ls i).next (get-times (members ls size count) (suc k) (link_at ls i).next some) in omega (arith, low, end))
+      go (ends none is) =
+          sym none ∙ ap (slice_get (members ls size count)) (let e : suc k ≡ k + 1 = omega arith in e)
+          ∙ ap (λ w. slice_get w (k + 1)) call.items_is
+      go (goes some) =
+          absurd (let low = member-below ls size count call.ring (link_at ls i).next (get-times (members ls size count) (suc k) (link_at ls i).next some) in omega (arith, low, end))
 
-  pub after-some : (k : ℕ) → slice_get v.items k ≡ Some i → ((link_at ls i).next ≡ size → ⊥) → Some (link_at ls i).next ≡ slice_get v.items (k + 1)
+  pub after-some : (k : ℕ) → slice_get v.items k ≡ Some i → ((link_at ls i).next ≡ size → ⊥)
+      → Some (link_at ls i).next ≡ slice_get v.items (k + 1)
   after-some k at end = go (after-value k at)
     where
-      go : Follows (members ls size count) k (link_at ls i).next size → Some (link_at ls i).next ≡ slice_get v.items (k + 1)
+      go : Follows (members ls size count) k (link_at ls i).next size
+          → Some (link_at ls i).next ≡ slice_get v.items (k + 1)
       go (ends none is) = absurd (end is)
-      go (goes some) = sym some ∙ ap (slice_get (members ls size count)) (let e : suc k ≡ k + 1 = omega arith in e) ∙ ap (λ w. slice_get w (k + 1)) call.items_is
+      go (goes some) =
+          sym some ∙ ap (slice_get (members ls size count)) (let e : suc k ≡ k + 1 = omega arith in e)
+          ∙ ap (λ w. slice_get w (k + 1)) call.items_is
 
-  pub join-value : (below : i < v.size) (absent : has v i ≡ false) → (let w : Numbers = record { items = members (joined ls size i) size (count + 1); size = size } in w) ≡ record { items = v.items ++ i ∷ []; size = v.size }
+  pub join-value : (below : i < v.size) (absent : has v i ≡ false)
+      → (let w : Numbers = record { items = members (joined ls size i) size (count + 1); size = size } in w) ≡ record { items = v.items ++ i ∷ []; size = v.size }
   join-value below absent =
       ap (λ ys. let w : Numbers = record { items = ys; size = size } in w)
       (join-members ls size count call.ring i (let e = call.size_is in omega (arith, e, below)) (absent-out absent) ∙ ap (λ ys. ys ++ i ∷ []) call.items_is)
       ∙ ap (λ n. let w : Numbers = record { items = v.items ++ i ∷ []; size = n } in w) call.size_is
 
   pub join-ring : i < v.size → has v i ≡ false → IsRing (joined ls size i) size (count + 1)
-  join-ring below absent = join-keeps ls size count call.ring i (let e = call.size_is in omega (arith, e, below)) (absent-out absent)
+  join-ring below absent =
+      join-keeps ls size count call.ring i (let e = call.size_is in omega (arith, e, below)) (absent-out absent)
 
   module _ (present : has v i ≡ true) where
     found : IsSplit i (members ls size count)

@@ -30,30 +30,36 @@ head-in (v ∷ vs) z = times-self v (vs ++ z ∷ [])
 
 -- ---- linked lists
 
-pub linked-before : (ls : List Link) (a i : ℕ) (us ws : List ℕ) → Linked ls a (us ++ i ∷ ws) → (link_at ls i).before ≡ last_of us a
+pub linked-before : (ls : List Link) (a i : ℕ) (us ws : List ℕ) → Linked ls a (us ++ i ∷ ws)
+    → (link_at ls i).before ≡ last_of us a
 linked-before ls a i [] ws h = h.1
 linked-before ls a i (x ∷ us) ws h = linked-before ls x i us ws h.2
 
-pub linked-next : (ls : List Link) (a i z : ℕ) (us vs : List ℕ) → Linked ls a (us ++ i ∷ (vs ++ z ∷ [])) → (link_at ls i).next ≡ head_of vs z
+pub linked-next : (ls : List Link) (a i z : ℕ) (us vs : List ℕ) → Linked ls a (us ++ i ∷ (vs ++ z ∷ []))
+    → (link_at ls i).next ≡ head_of vs z
 linked-next ls a i z [] [] h = h.2.0
 linked-next ls a i z [] (v ∷ vs) h = h.2.0
 linked-next ls a i z (x ∷ us) vs h = linked-next ls x i z us vs h.2
 
 -- a list that is linked from a on to z is what is walked from a
-walk-along : (ls : List Link) (a z : ℕ) (xs : List ℕ) → Linked ls a (xs ++ z ∷ []) → walk ls (length xs) (link_at ls a).next ≡ xs
+walk-along : (ls : List Link) (a z : ℕ) (xs : List ℕ) → Linked ls a (xs ++ z ∷ [])
+    → walk ls (length xs) (link_at ls a).next ≡ xs
 walk-along ls a z [] h = refl
 walk-along ls a z (x ∷ xs) h =
     ap (λ w. w ∷ walk ls (length xs) (link_at ls w).next) h.0 ∙ ap (λ ys. x ∷ ys) (walk-along ls x z xs h.2)
 
-pub walk-is : (ls : List Link) (a z k : ℕ) (xs : List ℕ) → k ≡ length xs → Linked ls a (xs ++ z ∷ []) → walk ls k (link_at ls a).next ≡ xs
+pub walk-is : (ls : List Link) (a z k : ℕ) (xs : List ℕ) → k ≡ length xs → Linked ls a (xs ++ z ∷ [])
+    → walk ls k (link_at ls a).next ≡ xs
 walk-is ls a z k xs long h = ap (λ n. walk ls n (link_at ls a).next) long ∙ walk-along ls a z xs h
 
 pub length-walk : (ls : List Link) (k i : ℕ) → length (walk ls k i) ≡ k
 length-walk ls zero i = refl
 length-walk ls (suc k) i = let e = length-walk ls k (link_at ls i).next in omega (arith, e)
 
-frame : (ls ms : List Link) (a z : ℕ) (vs : List ℕ) → ((j : ℕ) → 1 ≤ times j (a ∷ vs) → (link_at ms j).next ≡ (link_at ls j).next)
-    → ((j : ℕ) → 1 ≤ times j (vs ++ z ∷ []) → (link_at ms j).before ≡ (link_at ls j).before) → Linked ls a (vs ++ z ∷ []) → Linked ms a (vs ++ z ∷ [])
+frame : (ls ms : List Link) (a z : ℕ) (vs : List ℕ)
+    → ((j : ℕ) → 1 ≤ times j (a ∷ vs) → (link_at ms j).next ≡ (link_at ls j).next)
+    → ((j : ℕ) → 1 ≤ times j (vs ++ z ∷ []) → (link_at ms j).before ≡ (link_at ls j).before)
+    → Linked ls a (vs ++ z ∷ []) → Linked ms a (vs ++ z ∷ [])
 frame ls ms a z [] next before h = (next a (times-self a []) ∙ h.0, before z (times-self z []) ∙ h.1, tt)
 frame ls ms a z (v ∷ vs) next before h = (
   next a (times-self a (v ∷ vs)) ∙ h.0,
@@ -96,7 +102,8 @@ pub record IsParted (ls ms : List Link) (i b n : ℕ) : Type 0 where
   pub next : (j : ℕ) → j ≢ b → j ≢ i → (link_at ms j).next ≡ (link_at ls j).next
   pub before : (j : ℕ) → j ≢ n → j ≢ i → (link_at ms j).before ≡ (link_at ls j).before
 
-pub part-linked : (ls ms : List Link) (a i z b n : ℕ) (us vs : List ℕ) → IsParted ls ms i b n → b ≡ last_of us a → n ≡ head_of vs z
+pub part-linked : (ls ms : List Link) (a i z b n : ℕ) (us vs : List ℕ) → IsParted ls ms i b n → b ≡ last_of us a
+    → n ≡ head_of vs z
     → ((j : ℕ) → times j (us ++ i ∷ vs) ≤ 1) → times a (us ++ i ∷ vs) ≡ 0 → times z (us ++ i ∷ vs) ≡ 0
     → Linked ls a (us ++ i ∷ (vs ++ z ∷ [])) → Linked ms a (us ++ (vs ++ z ∷ []))
 part-linked ls ms a i z b n [] [] step b_is n_is once a_out z_out h = (
@@ -169,7 +176,8 @@ next-same ls i n within = ap (λ (x : Link). x.next) (same ls i _ within)
 next-other : (ls : List Link) (i j n : ℕ) → j ≢ i → (link_at (with_next ls i n) j).next ≡ (link_at ls j).next
 next-other ls i j n apart = ap (λ (x : Link). x.next) (other ls i j _ apart)
 
-next-before : (ls : List Link) (i j n : ℕ) → i < length ls → (link_at (with_next ls i n) j).before ≡ (link_at ls j).before
+next-before : (ls : List Link) (i j n : ℕ) → i < length ls
+    → (link_at (with_next ls i n) j).before ≡ (link_at ls j).before
 next-before ls i j n within = ⊎_elim
     (λ w. let P : ℕ → Type 0 = λ k. (link_at (with_next ls i n) k).before ≡ (link_at ls k).before in subst P (sym w.1) (ap (λ (x : Link). x.before) (same ls i _ within)))
     (λ w. ap (λ (x : Link). x.before) (other ls i j _ w.1))
@@ -187,7 +195,8 @@ before-next ls i j b within = ⊎_elim
     (λ w. ap (λ (x : Link). x.next) (other ls i j _ w.1))
     (eqb_tells j i)
 
-pub is-joined : (ls : List Link) (size i : ℕ) → i < length ls → size < length ls → (link_at ls size).before < length ls → i ≢ size → i ≢ (link_at ls size).before
+pub is-joined : (ls : List Link) (size i : ℕ) → i < length ls → size < length ls → (link_at ls size).before < length ls
+    → i ≢ size → i ≢ (link_at ls size).before
     → IsJoined ls (joined ls size i) (link_at ls size).before i size
 is-joined ls size i inside closed last_in i_size i_last =
     let last : ℕ = (link_at ls size).before in
@@ -207,7 +216,8 @@ is-joined ls size i inside closed last_in i_size i_last =
       before = λ j j_i j_size. before-other ls₂ size j i j_size ∙ ap (λ (x : Link). x.before) (other ls₁ i j l j_i) ∙ next-before ls last j i last_in;
     }
 
-pub is-parted : (ls : List Link) (size i : ℕ) → i < length ls → (link_at ls i).before < length ls → (link_at ls i).next < length ls → i ≢ (link_at ls i).before → i ≢ (link_at ls i).next
+pub is-parted : (ls : List Link) (size i : ℕ) → i < length ls → (link_at ls i).before < length ls
+    → (link_at ls i).next < length ls → i ≢ (link_at ls i).before → i ≢ (link_at ls i).next
     → IsParted ls (parted ls size i) i (link_at ls i).before (link_at ls i).next
 is-parted ls size i inside b_in n_in i_b i_n =
     let b : ℕ = (link_at ls i).before in
@@ -226,17 +236,22 @@ is-parted ls size i inside b_in n_in i_b i_n =
 
 pub length-joined : (ls : List Link) (size i : ℕ) → length (joined ls size i) ≡ length ls
 length-joined ls size i =
-    length-set (set (with_next ls (link_at ls size).before i) i _) size _ ∙ length-set (with_next ls (link_at ls size).before i) i _ ∙ length-set ls (link_at ls size).before _
+    length-set (set (with_next ls (link_at ls size).before i) i _) size _
+    ∙ length-set (with_next ls (link_at ls size).before i) i _ ∙ length-set ls (link_at ls size).before _
 
 pub length-parted : (ls : List Link) (size i : ℕ) → length (parted ls size i) ≡ length ls
 length-parted ls size i =
     length-set (with_before (with_next ls (link_at ls i).before (link_at ls i).next) (link_at ls i).next (link_at ls i).before) i _
-    ∙ length-set (with_next ls (link_at ls i).before (link_at ls i).next) (link_at ls i).next _ ∙ length-set ls (link_at ls i).before _
+    ∙ length-set (with_next ls (link_at ls i).before (link_at ls i).next) (link_at ls i).next _
+    ∙ length-set ls (link_at ls i).before _
 
 pub parted-gone : (ls : List Link) (size i : ℕ) → i < length ls → (link_at (parted ls size i) i).next ≡ size + 1
 parted-gone ls size i inside =
-    let ls₂ : List Link = with_before (with_next ls (link_at ls i).before (link_at ls i).next) (link_at ls i).next (link_at ls i).before in
-    let long : length ls₂ ≡ length ls = length-set (with_next ls (link_at ls i).before (link_at ls i).next) (link_at ls i).next _ ∙ length-set ls (link_at ls i).before _ in
+    let ls₂ : List Link =
+    with_before (with_next ls (link_at ls i).before (link_at ls i).next) (link_at ls i).next (link_at ls i).before in
+    let long : length ls₂ ≡ length ls =
+    length-set (with_next ls (link_at ls i).before (link_at ls i).next) (link_at ls i).next _
+    ∙ length-set ls (link_at ls i).before _ in
     ap (λ (x : Link). x.next) (same ls₂ i _ (omega (arith, long, inside)))
 
 -- ---- a ring
@@ -261,7 +276,8 @@ module _ (ls : List Link) (size count : ℕ) (ring : IsRing ls size count) where
   member-in i some = let a = ring.once i in one-true (is_in ls size i) (omega (arith, a, some))
 
   pub member-below : (i : ℕ) → 1 ≤ times i (members ls size count) → i < size
-  member-below i some = ltb-true i size (and-both (nat_lt i size) (nat_le (link_at ls i).next size) (member-in i some)).0
+  member-below i some =
+      ltb-true i size (and-both (nat_lt i size) (nat_le (link_at ls i).next size) (member-in i some)).0
 
   pub closed-out : times size (members ls size count) ≡ 0
   closed-out =
@@ -274,6 +290,7 @@ module _ (ls : List Link) (size count : ℕ) (ring : IsRing ls size count) where
   pub last-is : (link_at ls size).before ≡ last_of (members ls size count) size
   last-is = linked-before ls size size (members ls size count) [] ring.round
 
-  pub last-below : (xs : List ℕ) → ((i : ℕ) → 1 ≤ times i xs → i < size) → (last_of xs size ≡ size) ⊎ (1 ≤ times (last_of xs size) xs)
+  pub last-below : (xs : List ℕ) → ((i : ℕ) → 1 ≤ times i xs → i < size)
+      → (last_of xs size ≡ size) ⊎ (1 ≤ times (last_of xs size) xs)
   last-below [] below = inl refl
   last-below (x ∷ xs) below = inr (last-in x xs)

@@ -27,7 +27,8 @@ apart a n b low enough past = ⊎_elim
     (cases_lt a b)
 
 -- the least b is the one that is enough, where none before it is
-from-is : (fuel a n b : ℕ) → a ≤ b → b ≤ a + fuel → n ≤ 2 ^ b → ((c : ℕ) → a ≤ c → c < b → 2 ^ c < n) → bits_from fuel a n ≡ b
+from-is : (fuel a n b : ℕ) → a ≤ b → b ≤ a + fuel → n ≤ 2 ^ b → ((c : ℕ) → a ≤ c → c < b → 2 ^ c < n)
+    → bits_from fuel a n ≡ b
 from-is zero a n b low high enough before = omega (arith, low, high)
 from-is (suc fuel) a n b low high enough before = ⊎_elim
     (λ (past : 2 ^ a < n).
@@ -50,7 +51,10 @@ bits-is n b some enough before = from-is n 1 n b some (high b some before) enoug
     high : (b : ℕ) → 1 ≤ b → ((c : ℕ) → 1 ≤ c → c < b → 2 ^ c < n) → b ≤ 1 + n
     high zero some before = omega arith
     high (suc zero) some before = omega arith
-    high (suc (suc k)) some before = let past = before (suc k) (omega arith) (omega arith) in let g = grows (suc k) in omega (arith, past, g)
+    high (suc (suc k)) some before =
+        let past = before (suc k) (omega arith) (omega arith) in
+        let g = grows (suc k) in
+        omega (arith, past, g)
 
 -- ---- the most channels
 
@@ -58,7 +62,8 @@ pub most-take : (k : ℕ) (xs : List DomainPart) (d : ℕ) → d < length xs
     → max_channels k (take (d + 1) xs) ≡ max (max_channels k (take d xs)) (k * channels_in (slice_get xs d))
 most-take k xs d there = ap (λ n. max_channels k (take n xs)) (let e : d + 1 ≡ suc d = omega arith in e) ∙ go xs d there
   where
-    go : (xs : List DomainPart) (d : ℕ) → d < length xs → max_channels k (take (suc d) xs) ≡ max (max_channels k (take d xs)) (k * channels_in (slice_get xs d))
+    go : (xs : List DomainPart) (d : ℕ) → d < length xs
+        → max_channels k (take (suc d) xs) ≡ max (max_channels k (take d xs)) (k * channels_in (slice_get xs d))
     go [] d there = absurd (omega (arith, there))
     go (x ∷ xs) zero there = omega arith
     go (x ∷ xs) (suc d) there = let rest = go xs d (omega (arith, there)) in omega (arith, rest)
@@ -74,14 +79,16 @@ link_channels-most p d = most-one (classes p) p.domains d
 
 -- ---- the parts of a word
 
-pub above-few : (k low_bits high low : ℕ) → high < 2 ^ k → low < 2 ^ low_bits → high * 2 ^ low_bits + low < 2 ^ (k + low_bits)
+pub above-few : (k low_bits high low : ℕ) → high < 2 ^ k → low < 2 ^ low_bits
+    → high * 2 ^ low_bits + low < 2 ^ (k + low_bits)
 above-few k low_bits high low h l =
     let a = mul-add-lt high (2 ^ low_bits) low (2 ^ k) h l in
     let e = pow-add 2 k low_bits in
     let c = mul_comm (2 ^ low_bits) (2 ^ k) in
     omega (arith, a, e, c)
 
-pub above-fits : (low_bits high low : ℕ) → high < 2 ^ 10 → low_bits ≤ 42 → low < 2 ^ low_bits → high * 2 ^ low_bits + low < 2 ^ 52
+pub above-fits : (low_bits high low : ℕ) → high < 2 ^ 10 → low_bits ≤ 42 → low < 2 ^ low_bits
+    → high * 2 ^ low_bits + low < 2 ^ 52
 above-fits low_bits high low h few l =
     let a = above-few 10 low_bits high low h l in
     let b = pow-le-pow_right {n = 2} (omega arith) {i = 10 + low_bits} {j = 52} (omega (arith, few)) in

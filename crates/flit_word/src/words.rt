@@ -41,7 +41,8 @@ pub fn to_word(plan: &Plan, flit: Flit) -> u64
 
 /// The flit that has this word, where there is one: no two flits have the same word.
 pub fn of_word(plan: &Plan, word: u64) -> Flit
-    ensures { (f : FlitValue) → f.dest < tiles plan.now → f.payload < 2 ^ 32 → flit_word plan.now f ≡ word → result ≡ f }
+    ensures { (f : FlitValue) → f.dest < tiles plan.now → f.payload < 2 ^ 32 → flit_word plan.now f ≡ word
+        → result ≡ f }
 {
     let top = word / 2u64.pow(32);
     let size = 2u64.pow(dest_bits(plan));

@@ -41,11 +41,13 @@ stays words index x j other = grind (arith, nat_tests)
 lands : (words : ℕ → ℕ) (index x : ℕ) → stored 1 index x words index ≡ x
 lands words index x = grind (arith, nat_tests)
 
-words-kept : (words words' : ℕ → ℕ) (m r : ℕ) (q : List ℕ) → ((j : ℕ) → words' j ≡ words j) → WordsAre words m r q → WordsAre words' m r q
+words-kept : (words words' : ℕ → ℕ) (m r : ℕ) (q : List ℕ) → ((j : ℕ) → words' j ≡ words j) → WordsAre words m r q
+    → WordsAre words' m r q
 words-kept words words' m r [] same h = tt
 words-kept words words' m r (x ∷ q) same h = (same (r % m) ∙ h.0, words-kept words words' m (suc r) q same h.1)
 
-words-pushed : (words words' : ℕ → ℕ) (m r p x : ℕ) (q : List ℕ) → p ≡ r + length q → length q < m → ((j : ℕ) → words' j ≡ stored 1 (p % m) x words j)
+words-pushed : (words words' : ℕ → ℕ) (m r p x : ℕ) (q : List ℕ) → p ≡ r + length q → length q < m
+    → ((j : ℕ) → words' j ≡ stored 1 (p % m) x words j)
     → WordsAre words m r q → WordsAre words' m r (q ++ x ∷ [])
 words-pushed words words' m r p x [] e room new h =
     let same : p ≡ r = omega arith in
@@ -72,7 +74,8 @@ picks b c x y k e f = f ∙ ap (λ z. chosen z x y) e
 
 picks-two : (a b : Bool) (c d p q r s k : ℕ) → c ≡ one_if a → d ≡ one_if b → k ≡ chosen c (chosen d p q) (chosen d r s)
     → k ≡ chosen (one_if a) (chosen (one_if b) p q) (chosen (one_if b) r s)
-picks-two a b c d p q r s k e f g = g ∙ ap (λ z. chosen z (chosen d p q) (chosen d r s)) e ∙ ap (λ z. chosen (one_if a) (chosen z p q) (chosen z r s)) f
+picks-two a b c d p q r s k e f g =
+    g ∙ ap (λ z. chosen z (chosen d p q) (chosen d r s)) e ∙ ap (λ z. chosen (one_if a) (chosen z p q) (chosen z r s)) f
 
 at-width : (a b k l : ℕ) → k ≡ l → (a + b) % 2 ^ k ≡ (a + b) % 2 ^ l
 at-width a b k l e = ap (λ z. (a + b) % 2 ^ z) e
@@ -89,7 +92,8 @@ pub record Moves (n : FifoNames) (bh lh : ℕ) (v w : Values) (push pop : Bool) 
       (chosen (one_if pop) ((v.net n.count + (2 ^ (lh + 1) - 1)) % 2 ^ (lh + 1)) (v.net n.count))
   pub words : (j : ℕ) → w.word n.memory j ≡ stored (one_if push) (v.net n.write) (v.net n.word) (v.word n.memory) j
 
-moves : (n : FifoNames) (bh lh wh : ℕ) (z : Widths) (v w : Values) (push pop : Bool) → AllHold z v (fifo_items n bh lh wh) → AllStep z v w (fifo_items n bh lh wh)
+moves : (n : FifoNames) (bh lh wh : ℕ) (z : Widths) (v w : Values) (push pop : Bool)
+    → AllHold z v (fifo_items n bh lh wh) → AllStep z v w (fifo_items n bh lh wh)
     → v.net n.push ≡ one_if push → v.net n.pop ≡ one_if pop → Moves n bh lh v w push pop
 moves n bh lh wh z v w push pop held e pe oe =
     let clocks = e.1.1.1.1.1.1.1.1 in
@@ -103,8 +107,10 @@ moves n bh lh wh z v w push pop held e pe oe =
       words = λ j. clocks.1.1.1.0 j ∙ ap (λ z. stored z (v.net n.write) (v.net n.word) (v.word n.memory) j) pe;
     }
 
-kept : (n : FifoNames) (bh lh depth : ℕ) (v w : Values) (push pop : Bool) (q : List ℕ) (r : ℕ) → depth ≤ 2 ^ (bh + 1) → depth < 2 ^ (lh + 1) → Moves n bh lh v w push pop
-    → length q ≤ depth → MayMove push pop depth q → Stands n bh v r q → IsList n bh w (next_list push pop (v.net n.word) q)
+kept : (n : FifoNames) (bh lh depth : ℕ) (v w : Values) (push pop : Bool) (q : List ℕ) (r : ℕ) → depth ≤ 2 ^ (bh + 1)
+    → depth < 2 ^ (lh + 1) → Moves n bh lh v w push pop
+    → length q ≤ depth → MayMove push pop depth q → Stands n bh v r q
+    → IsList n bh w (next_list push pop (v.net n.word) q)
 kept n bh lh depth v w false false q r small fits m short may s = (
   r,
   record {

@@ -46,7 +46,8 @@ deep-enough depth le = go (nat_lt depth 3) refl (nat_lt depth 5) refl (nat_lt de
 wide-enough : (depth : ℕ) → depth ≤ 16 → depth < 2 ^ (count_high depth + 1)
 wide-enough depth le = go (nat_lt depth 2) refl (nat_lt depth 4) refl (nat_lt depth 8) refl (nat_lt depth 16) refl
   where
-    go : (a : Bool) → nat_lt depth 2 ≡ a → (b : Bool) → nat_lt depth 4 ≡ b → (c : Bool) → nat_lt depth 8 ≡ c → (d : Bool) → nat_lt depth 16 ≡ d
+    go : (a : Bool) → nat_lt depth 2 ≡ a → (b : Bool) → nat_lt depth 4 ≡ b → (c : Bool) → nat_lt depth 8 ≡ c
+        → (d : Bool) → nat_lt depth 16 ≡ d
         → depth < 2 ^ ((if a then 0 else if b then 1 else if c then 2 else if d then 3 else 4) + 1)
     go true e b f c g d h = let less : depth < 2 = grind (arith, nat_tests) in omega arith
     go false e true f c g d h = let less : depth < 4 = grind (arith, nat_tests) in omega arith
@@ -56,7 +57,8 @@ wide-enough depth le = go (nat_lt depth 2) refl (nat_lt depth 4) refl (nat_lt de
 
 -- ---- the buffer is a list
 
-short-next : (push pop : Bool) (depth x : ℕ) (q : List ℕ) → length q ≤ depth → MayMove push pop depth q → length (next_list push pop x q) ≤ depth
+short-next : (push pop : Bool) (depth x : ℕ) (q : List ℕ) → length q ≤ depth → MayMove push pop depth q
+    → length (next_list push pop x q) ≤ depth
 short-next false false depth x q le may = le
 short-next true false depth x q le may = let room = may.0 refl in let more = length-append q (x ∷ []) in omega arith
 short-next false true depth x [] le may = le
@@ -64,11 +66,13 @@ short-next false true depth x (y ∷ q) le may = omega (arith, le)
 short-next true true depth x [] le may = let some = may.1 refl in absurd (omega arith)
 short-next true true depth x (y ∷ q) le may = let more = length-append q (x ∷ []) in omega (arith, le)
 
-front-shown : (n : FifoNames) (bh : ℕ) (v : Values) (q : List ℕ) → v.net n.front ≡ v.word n.memory (v.net n.read) → IsList n bh v q → ShowsFront (v.net n.front) q
+front-shown : (n : FifoNames) (bh : ℕ) (v : Values) (q : List ℕ) → v.net n.front ≡ v.word n.memory (v.net n.read)
+    → IsList n bh v q → ShowsFront (v.net n.front) q
 front-shown n bh v [] e s = tt
 front-shown n bh v (x ∷ q) e s = e ∙ ap (v.word n.memory) (s.1.read) ∙ s.1.words.0
 
-empty-shown : (q : List ℕ) (count empty : ℕ) → empty ≡ one_if (count == 0) → count ≡ length q → empty ≡ one_if (is_nothing q)
+empty-shown : (q : List ℕ) (count empty : ℕ) → empty ≡ one_if (count == 0) → count ≡ length q
+    → empty ≡ one_if (is_nothing q)
 empty-shown [] count empty e c = e ∙ rw c refl
 empty-shown (x ∷ q) count empty e c =
     let some : (length (x ∷ q) == 0) ≡ false = grind (arith, nat_tests) in
@@ -97,13 +101,15 @@ is-buffer s old le = record {
 
 -- ---- items behind items
 
-pub items-joined : (x start a b : Leaf) (h n m : List Item) → a ≡ with_items start h → b ≡ with_items a n → x ≡ with_items b m → x ≡ with_items start (h ++ (n ++ m))
+pub items-joined : (x start a b : Leaf) (h n m : List Item) → a ≡ with_items start h → b ≡ with_items a n
+    → x ≡ with_items b m → x ≡ with_items start (h ++ (n ++ m))
 items-joined x start a b h n m e f g =
     g ∙ ap (λ l. with_items l m) (f ∙ ap (λ l. with_items l n) e)
     ∙ ap (λ is. with_items (record { name = start.name; ports = start.ports; items = [] }) is) (append_assoc (start.items ++ h) n m ∙ append_assoc start.items h (n ++ m))
 
 -- what is built is a buffer
-pub buffer-in : (s : BufferSpec) (n : BufferNets) (old new : Leaf) → n ≡ nets_of s → s.depth ≤ 16 → new ≡ with_items old (buffer_items s) → IsBuffer new.items s n
+pub buffer-in : (s : BufferSpec) (n : BufferNets) (old new : Leaf) → n ≡ nets_of s → s.depth ≤ 16
+    → new ≡ with_items old (buffer_items s) → IsBuffer new.items s n
 buffer-in s n old new e le f =
     subst (λ m. IsBuffer new.items s m) (sym e)
     (subst (λ l. IsBuffer l.items s (nets_of s)) (sym f) (is-buffer s old.items le))

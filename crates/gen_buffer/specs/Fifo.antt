@@ -17,10 +17,11 @@ pub record FifoNames : Type 0 where
   pub word : Name
   pub pop : Name
 
--- a net of h + 1 bits plus 1, and minus 1
+-- a net of h + 1 bits plus 1
 abbrev pub one_more : ℕ → Name → Expr
 one_more h n = two Add (net n) (in_bits (h + 1) 1)
 
+-- a net of h + 1 bits minus 1
 abbrev pub one_less : ℕ → Name → Expr
 one_less h n = two Sub (net n) (in_bits (h + 1) 1)
 

@@ -13,7 +13,7 @@ use gen_kit::{LeafWork, cond, net, number, own_name, two, word};
 use std::alloc::{AllocError, Global};
 use vl_tree::{Const, Expr, LeafItem, Name, Op};
 
-// One less than the bits of the pointers.
+/// One less than the bits of the pointers.
 fn index_high(depth: u32) -> u32
     ensures same { result ≡ sizes.index_high depth }
     ensures few { result < 4 }
@@ -29,7 +29,7 @@ fn index_high(depth: u32) -> u32
     }
 }
 
-// One less than the bits of the length.
+/// One less than the bits of the length.
 fn count_high(depth: u32) -> u32
     ensures same { result ≡ sizes.count_high depth }
     ensures few { result < 5 }
@@ -61,7 +61,7 @@ fn minus_one(alloc: Global, high: u32, name: &Name) -> Result<Expr, AllocError>
     two(alloc, Op::Sub, net(alloc, name)?, number(high + 1, 1))
 }
 
-// A register that begins at 0.
+/// A register that begins at 0.
 fn clock(
     alloc: Global,
     work: &mut LeafWork,
@@ -83,7 +83,7 @@ fn clock(
     })
 }
 
-// A pointer that a net of one bit moves on.
+/// A pointer that a net of one bit moves on.
 fn step(
     alloc: Global,
     work: &mut LeafWork,
@@ -101,7 +101,7 @@ fn step(
     clock(alloc, work, high, name, value)
 }
 
-// The length after a push, a pop, both or neither.
+/// The length after a push, a pop, both or neither.
 fn counted(alloc: Global, high: u32, spec: &BufferSpec, count: &Name) -> Result<Expr, AllocError>
     requires high { high < 64 }
     requires name { count.now ≡ (fifo_names spec.now).count }
@@ -188,7 +188,7 @@ fn moves(
     })
 }
 
-// The nets that a buffer shows itself by.
+/// The nets that a buffer shows itself by.
 pub(crate) fn shown(alloc: Global, spec: &BufferSpec) -> Result<BufferNets, AllocError>
     ensures { IfOk result (λ nets. nets ≡ nets_of spec.now) }
 {
@@ -199,7 +199,7 @@ pub(crate) fn shown(alloc: Global, spec: &BufferSpec) -> Result<BufferNets, Allo
     })
 }
 
-// All items.
+/// All items.
 pub(crate) fn push_items(
     alloc: Global,
     work: &mut LeafWork,

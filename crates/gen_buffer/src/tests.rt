@@ -29,7 +29,7 @@ fn leaf(alloc: Global, depth: u32) -> Result<Leaf, AllocError> {
     Ok(work.finish())
 }
 
-// The number of the most significant bit of what an item declares, and of the last word of a memory.
+/// The number of the most significant bit of what an item declares, and of the last word of a memory.
 fn sizes(item: &LeafItem) -> (u32, u32) {
     match item {
         LeafItem::Mem { high, last, .. } => (*high, *last),

@@ -10,7 +10,8 @@ use Rattle.std.specs.Prelude.{◌+◌, ◌*◌, bit_or}
 use Rattle.gen_kit.specs.Families.{row_parts}
 use Rattle.gen_kit.proofs.Sets.{mask-or, mask-same, mask-cat}
 
-pub each-held : (P : Item → Type 0) (n : ℕ) (f : ℕ → List Item) → AllByRecursion P (for_each n f) → (k : ℕ) → k < n → AllByRecursion P (f k)
+pub each-held : (P : Item → Type 0) (n : ℕ) (f : ℕ → List Item) → AllByRecursion P (for_each n f) → (k : ℕ) → k < n
+    → AllByRecursion P (f k)
 each-held P zero f h k below = absurd (omega arith)
 each-held P (suc n) f h k below = go (λ g. each-held P n f (held-front P (for_each n f) (f n) h) k g) order
   where
@@ -21,7 +22,8 @@ each-held P (suc n) f h k below = go (λ g. each-held P n f (held-front P (for_e
     go before (inl less) = before less
     go before (inr e) = subst (λ j. AllByRecursion P (f j)) (sym e) (held-back P (for_each n f) (f n) h)
 
-pub or-shown : (w : Widths) (v : Values) (h : ℕ) (f : ℕ → Expr) (sets : ℕ → ℕ → Bool) (n : ℕ) → ((k : ℕ) → k ≤ n → value_of w v (f k) ≡ mask h (sets k))
+pub or-shown : (w : Widths) (v : Values) (h : ℕ) (f : ℕ → Expr) (sets : ℕ → ℕ → Bool) (n : ℕ)
+    → ((k : ℕ) → k ≤ n → value_of w v (f k) ≡ mask h (sets k))
     → value_of w v (or_upto n f) ≡ mask h (λ i. any_upto n (λ k. sets k i))
 or-shown w v h f sets zero e = e zero (omega arith)
 or-shown w v h f sets (suc n) e =
@@ -48,12 +50,16 @@ any-lone (suc n) c f le lone = go (λ h. any-lone n c f h lone) order
 
 -- ---- rows of parts
 
-pub rows-wide : (c : ℕ) (w : Widths) (f : ℕ → Expr) (n : ℕ) → ((k : ℕ) → k ≤ n → width_of w (f k) ≡ c) → widths_of w (row_parts f n) ≡ (n + 1) * c
+pub rows-wide : (c : ℕ) (w : Widths) (f : ℕ → Expr) (n : ℕ) → ((k : ℕ) → k ≤ n → width_of w (f k) ≡ c)
+    → widths_of w (row_parts f n) ≡ (n + 1) * c
 rows-wide c w f zero each = rw (each zero (omega arith)) (omega arith)
-rows-wide c w f (suc n) each = rw (each (suc n) (omega arith), rows-wide c w f n (λ k le. each k (omega arith))) (grind arith)
+rows-wide c w f (suc n) each =
+    rw (each (suc n) (omega arith), rows-wide c w f n (λ k le. each k (omega arith))) (grind arith)
 
-pub rows-shown : (c : ℕ) (w : Widths) (v : Values) (f : ℕ → Expr) (set : ℕ → Bool) (n : ℕ) → ((k : ℕ) → k ≤ n → width_of w (f k) ≡ c)
-    → ((k : ℕ) → k ≤ n → value_of w v (f k) ≡ mask c (λ j. set (k * c + j))) → values_of w v (row_parts f n) ≡ mask ((n + 1) * c) set
+pub rows-shown : (c : ℕ) (w : Widths) (v : Values) (f : ℕ → Expr) (set : ℕ → Bool) (n : ℕ)
+    → ((k : ℕ) → k ≤ n → width_of w (f k) ≡ c)
+    → ((k : ℕ) → k ≤ n → value_of w v (f k) ≡ mask c (λ j. set (k * c + j)))
+    → values_of w v (row_parts f n) ≡ mask ((n + 1) * c) set
 rows-shown c w v f set zero wide each =
     let one : (0 + 1) * c ≡ c = omega arith in
     rw one (omega (arith, each zero (omega arith), mask-same c (λ j. set (0 * c + j)) set (λ j b. (let e : 0 * c + j ≡ j = omega arith in ap set e))))
@@ -69,6 +75,8 @@ bit-or true false = refl
 bit-or false true = refl
 bit-or false false = refl
 
-pub or-bits : (w : Widths) (v : Values) (f : ℕ → Expr) (set : ℕ → Bool) (n : ℕ) → ((k : ℕ) → k ≤ n → value_of w v (f k) ≡ one_if (set k)) → value_of w v (or_upto n f) ≡ one_if (any_upto n set)
+pub or-bits : (w : Widths) (v : Values) (f : ℕ → Expr) (set : ℕ → Bool) (n : ℕ)
+    → ((k : ℕ) → k ≤ n → value_of w v (f k) ≡ one_if (set k)) → value_of w v (or_upto n f) ≡ one_if (any_upto n set)
 or-bits w v f set zero e = e zero (omega arith)
-or-bits w v f set (suc n) e = rw (or-bits w v f set n (λ k le. e k (omega arith)), e (suc n) (omega arith)) (bit-or (any_upto n set) (set (suc n)))
+or-bits w v f set (suc n) e =
+    rw (or-bits w v f set n (λ k le. e k (omega arith)), e (suc n) (omega arith)) (bit-or (any_upto n set) (set (suc n)))

@@ -62,7 +62,8 @@ pub mask-not : (n : ℕ) (a : ℕ → Bool) → 2 ^ n - 1 - mask n a ≡ mask n 
 mask-not zero a = refl
 mask-not (suc n) a = go (mask-not n a) (a n)
   where
-    go : 2 ^ n - 1 - mask n a ≡ mask n (λ i. not (a i)) → (b : Bool) → 2 ^ suc n - 1 - (one_if b * 2 ^ n + mask n a) ≡ one_if (not b) * 2 ^ n + mask n (λ i. not (a i))
+    go : 2 ^ n - 1 - mask n a ≡ mask n (λ i. not (a i)) → (b : Bool)
+        → 2 ^ suc n - 1 - (one_if b * 2 ^ n + mask n a) ≡ one_if (not b) * 2 ^ n + mask n (λ i. not (a i))
     go before true = omega (arith, mask-lt n a, before, pow-next n)
     go before false = omega (arith, mask-lt n a, before, pow-next n)
 
@@ -74,10 +75,12 @@ pub mask-one : (n k : ℕ) → k < n → mask n (λ i. k == i) ≡ 2 ^ k
 mask-one zero k below = absurd (omega arith)
 mask-one (suc n) k below = go (λ h. mask-one n k h) (k == n) refl
   where
-    go : (k < n → mask n (λ i. k == i) ≡ 2 ^ k) → (b : Bool) → (k == n) ≡ b → one_if b * 2 ^ n + mask n (λ i. k == i) ≡ 2 ^ k
+    go : (k < n → mask n (λ i. k == i) ≡ 2 ^ k) → (b : Bool) → (k == n) ≡ b
+        → one_if b * 2 ^ n + mask n (λ i. k == i) ≡ 2 ^ k
     go before true e =
         let same : k ≡ n = grind (arith, nat_tests) in
-        let rest : mask n (λ i. k == i) ≡ 0 = mask-none n (λ i. k == i) (λ i h. (let less : i < k = omega arith in grind (arith, nat_tests))) in
+        let rest : mask n (λ i. k == i) ≡ 0 =
+        mask-none n (λ i. k == i) (λ i h. (let less : i < k = omega arith in grind (arith, nat_tests))) in
         rw (rest, same) (omega arith)
     go before false e =
         let less : k < n = grind (arith, nat_tests) in
@@ -88,7 +91,8 @@ pub none-zero : (n : ℕ) (a : ℕ → Bool) → least n a ≡ None → mask n a
 none-zero zero a e = refl
 none-zero (suc n) a e = go (λ h. none-zero n a h) (least n a) refl (a n) refl e
   where
-    go : (least n a ≡ None → mask n a ≡ 0) → (o : Option ℕ) → least n a ≡ o → (b : Bool) → a n ≡ b → option_or o (number_if b n) ≡ None → one_if (a n) * 2 ^ n + mask n a ≡ 0
+    go : (least n a ≡ None → mask n a ≡ 0) → (o : Option ℕ) → least n a ≡ o → (b : Bool) → a n ≡ b
+        → option_or o (number_if b n) ≡ None → one_if (a n) * 2 ^ n + mask n a ≡ 0
     go before None is false here f = rw here (omega (arith, before is))
     go before None is true here f = absurd (cc f)
     go before (Some k) is b here f = absurd (cc f)
@@ -97,14 +101,16 @@ pub some-more : (n : ℕ) (a : ℕ → Bool) (k : ℕ) → least n a ≡ Some k 
 some-more zero a k e = absurd (cc e)
 some-more (suc n) a k e = go (λ j h. some-more n a j h) (least n a) refl (a n) refl e
   where
-    go : ((j : ℕ) → least n a ≡ Some j → (0 < mask n a) × (j < n)) → (o : Option ℕ) → least n a ≡ o → (b : Bool) → a n ≡ b → option_or o (number_if b n) ≡ Some k
+    go : ((j : ℕ) → least n a ≡ Some j → (0 < mask n a) × (j < n)) → (o : Option ℕ) → least n a ≡ o → (b : Bool)
+        → a n ≡ b → option_or o (number_if b n) ≡ Some k
         → (0 < one_if (a n) * 2 ^ n + mask n a) × (k < suc n)
     go before None is false here f = absurd (cc f)
     go before None is true here f = let at : n ≡ k = cc in (rw here (omega (arith, pow_pos n)), omega arith)
     go before (Some j) is b here f = let at : j ≡ k = cc in (let more = before j is in (omega (arith, more.0), omega (arith, more.1)))
 
 -- the least one alone: a set and what is left of it when it is taken from 0
-pub mask-least : (n : ℕ) (a : ℕ → Bool) → bit_and (mask n a) ((0 + (2 ^ n - mask n a)) % 2 ^ n) ≡ mask n (is_place (least n a))
+pub mask-least : (n : ℕ) (a : ℕ → Bool)
+    → bit_and (mask n a) ((0 + (2 ^ n - mask n a)) % 2 ^ n) ≡ mask n (is_place (least n a))
 mask-least zero a = refl
 mask-least (suc n) a = go (mask-least n a) (least n a) refl (a n)
   where
@@ -121,11 +127,13 @@ mask-least (suc n) a = go (mask-least n a) (least n a) refl (a n)
     apart true = refl
     apart false = refl
 
-    rest : (b : Bool) → 0 < mask n a → (0 + (2 ^ suc n - (one_if b * 2 ^ n + mask n a))) % 2 ^ suc n ≡ one_if (not b) * 2 ^ n + (2 ^ n - mask n a)
+    rest : (b : Bool) → 0 < mask n a
+        → (0 + (2 ^ suc n - (one_if b * 2 ^ n + mask n a))) % 2 ^ suc n ≡ one_if (not b) * 2 ^ n + (2 ^ n - mask n a)
     rest true some = mod-eq_of_lt (omega (arith, mask-lt n a, pow-next n)) ∙ omega (arith, mask-lt n a, pow-next n)
     rest false some = mod-eq_of_lt (omega (arith, mask-lt n a, pow-next n)) ∙ omega (arith, mask-lt n a, pow-next n)
 
-    go : bit_and (mask n a) ((0 + (2 ^ n - mask n a)) % 2 ^ n) ≡ mask n (is_place (least n a)) → (o : Option ℕ) → least n a ≡ o → (b : Bool)
+    go : bit_and (mask n a) ((0 + (2 ^ n - mask n a)) % 2 ^ n) ≡ mask n (is_place (least n a)) → (o : Option ℕ)
+        → least n a ≡ o → (b : Bool)
         → bit_and (one_if b * 2 ^ n + mask n a) ((0 + (2 ^ suc n - (one_if b * 2 ^ n + mask n a))) % 2 ^ suc n) ≡ one_if (is_place (option_or o (number_if b n)) n) * 2 ^ n + mask n (is_place (option_or o (number_if b n)))
     go before None is false =
         let empty : mask n a ≡ 0 = none-zero n a is in
@@ -135,14 +143,17 @@ mask-least (suc n) a = go (mask-least n a) (least n a) refl (a n)
         let empty : mask n a ≡ 0 = none-zero n a is in
         let none : mask n (λ i. n == i) ≡ 0 = mask-none n (λ i. n == i) (λ i h. grind (arith, nat_tests, h)) in
         let self : (n == n) ≡ true = grind (arith, nat_tests) in
-        both _ _ (2 ^ n) (omega arith) (mod-eq_of_lt (omega (arith, pow_pos n, pow-next n)) ∙ omega (arith, pow-next n)) ∙ rw (self, none) (omega arith)
+        both _ _ (2 ^ n) (omega arith) (mod-eq_of_lt (omega (arith, pow_pos n, pow-next n)) ∙ omega (arith, pow-next n))
+        ∙ rw (self, none) (omega arith)
     go before (Some k) is b =
         let more = some-more n a k is in
         let small : 2 ^ n - mask n a < 2 ^ n = omega (arith, more.0, pow_pos n) in
         let plain : 0 + (2 ^ n - mask n a) ≡ 2 ^ n - mask n a = omega arith in
-        let reduced : (0 + (2 ^ n - mask n a)) % 2 ^ n ≡ 2 ^ n - mask n a = ap (λ z. z % 2 ^ n) plain ∙ mod-eq_of_lt small in
+        let reduced : (0 + (2 ^ n - mask n a)) % 2 ^ n ≡ 2 ^ n - mask n a =
+        ap (λ z. z % 2 ^ n) plain ∙ mod-eq_of_lt small in
         let under : bit_and (mask n a) (2 ^ n - mask n a) ≡ mask n (is_place (Some k)) =
-        second (mask n a) (2 ^ n - mask n a) ((0 + (2 ^ n - mask n a)) % 2 ^ n) (sym reduced) ∙ before ∙ ap (λ o. mask n (is_place o)) is in
+        second (mask n a) (2 ^ n - mask n a) ((0 + (2 ^ n - mask n a)) % 2 ^ n) (sym reduced) ∙ before
+        ∙ ap (λ o. mask n (is_place o)) is in
         let other : (k == n) ≡ false = grind (arith, nat_tests, more.1) in
         second _ _ _ (rest b more.0)
         ∙ and_block n (one_if b) (one_if (not b)) (mask n a) (2 ^ n - mask n a) (mask-lt n a) small
@@ -159,7 +170,8 @@ low (suc n) p le = go (low n) (nat_lt n p) refl
         let is : nat_lt m p ≡ true = grind (arith, nat_tests) in
         rw (is, all m (omega arith)) (omega (arith, pow-next m, pow_pos m))
 
-    go : ((q : ℕ) → q ≤ n → mask n (λ i. nat_lt i q) ≡ 2 ^ q - 1) → (b : Bool) → nat_lt n p ≡ b → one_if b * 2 ^ n + mask n (λ i. nat_lt i p) ≡ 2 ^ p - 1
+    go : ((q : ℕ) → q ≤ n → mask n (λ i. nat_lt i q) ≡ 2 ^ q - 1) → (b : Bool) → nat_lt n p ≡ b
+        → one_if b * 2 ^ n + mask n (λ i. nat_lt i p) ≡ 2 ^ p - 1
     go before true e =
         let whole : p ≡ suc n = grind (arith, nat_tests) in
         rw (all n (omega arith), whole) (omega (arith, pow-next n, pow_pos n))
@@ -172,7 +184,8 @@ mask-from n p le =
     ∙ sym (mask-not n (λ i. nat_lt i p)) ∙ rw (low n p le) (omega (arith, pow_pos p))
 
 -- what stands above a lone member
-pub mask-above : (n k : ℕ) → k < n → 2 ^ n - 1 - bit_or (2 ^ k) ((2 ^ k + (2 ^ n - 1)) % 2 ^ n) ≡ mask n (nat_le (k + 1))
+pub mask-above : (n k : ℕ) → k < n
+    → 2 ^ n - 1 - bit_or (2 ^ k) ((2 ^ k + (2 ^ n - 1)) % 2 ^ n) ≡ mask n (nat_le (k + 1))
 mask-above n k below = ap (λ z. 2 ^ n - 1 - z) (ap (λ z. bit_or (2 ^ k) z) less ∙ together) ∙ ap (λ z. 2 ^ n - 1 - z) (ap (λ z. 2 ^ z - 1) suc-is) ∙ omega (arith, pow_pos (k + 1)) ∙ sym (mask-from n (k + 1) (omega arith))
   where
     bound : 2 ^ suc k ≤ 2 ^ n
@@ -184,7 +197,8 @@ mask-above n k below = ap (λ z. 2 ^ n - 1 - z) (ap (λ z. bit_or (2 ^ k) z) les
     less : (2 ^ k + (2 ^ n - 1)) % 2 ^ n ≡ 2 ^ k - 1
     less =
         let e : 2 ^ k + (2 ^ n - 1) ≡ (2 ^ k - 1) + 2 ^ n = omega (arith, pow_pos k, pow_pos n) in
-        ap (λ z. z % 2 ^ n) e ∙ add-mod_right (2 ^ k - 1) (2 ^ n) ∙ mod-eq_of_lt (omega (arith, pow_pos k, pow-next k, bound))
+        ap (λ z. z % 2 ^ n) e ∙ add-mod_right (2 ^ k - 1) (2 ^ n)
+        ∙ mod-eq_of_lt (omega (arith, pow_pos k, pow-next k, bound))
 
     together : bit_or (2 ^ k) (2 ^ k - 1) ≡ 2 ^ suc k - 1
     together =
@@ -205,7 +219,8 @@ mask-bit (suc n) i a below = go (λ h. mask-bit n i a h) order
     bit true = refl
     bit false = refl
 
-    go : (i < n → mask n a / 2 ^ i % 2 ≡ one_if (a i)) → (i < n) ⊎ (i ≡ n) → (one_if (a n) * 2 ^ n + mask n a) / 2 ^ i % 2 ≡ one_if (a i)
+    go : (i < n → mask n a / 2 ^ i % 2 ≡ one_if (a i)) → (i < n) ⊎ (i ≡ n)
+        → (one_if (a n) * 2 ^ n + mask n a) / 2 ^ i % 2 ≡ one_if (a i)
     go before (inl h) = bit_at_cat_low (one_if (a n)) n (mask n a) i h ∙ before h
     go before (inr e) =
         let none : n - n ≡ 0 = omega arith in
@@ -234,8 +249,10 @@ mask-part w l n a le =
 
     cut : mask n a % 2 ^ (w + l) ≡ mask (l + w) a
     cut =
-        ap (λ k. mask n a % 2 ^ k) swap ∙ ap (λ k. mask k a % 2 ^ (l + w)) whole ∙ ap (λ z. z % 2 ^ (l + w)) (mask-cat r (l + w) a)
-        ∙ mul-add-mod_self_right (mask r (λ i. a (l + w + i))) (2 ^ (l + w)) (mask (l + w) a) ∙ mod-eq_of_lt (mask-lt (l + w) a)
+        ap (λ k. mask n a % 2 ^ k) swap ∙ ap (λ k. mask k a % 2 ^ (l + w)) whole
+        ∙ ap (λ z. z % 2 ^ (l + w)) (mask-cat r (l + w) a)
+        ∙ mul-add-mod_self_right (mask r (λ i. a (l + w + i))) (2 ^ (l + w)) (mask (l + w) a)
+        ∙ mod-eq_of_lt (mask-lt (l + w) a)
 
 -- a member makes a number above 0
 pub mask-some : (n i : ℕ) (a : ℕ → Bool) → i < n → a i ≡ true → 0 < mask n a

@@ -5,6 +5,7 @@ use Rattle.vl_tree.specs.Values.{Item}
 use Rattle.vl_model.specs.Meaning.{Widths, Values}
 use Rattle.vl_model.specs.Parts.{AllHold, AllStep, AllReset}
 
+-- the items of one part of a leaf, in the three places where they stand
 pub record Group : Type 0 where
   pub heads : List Item
   pub nets : List Item

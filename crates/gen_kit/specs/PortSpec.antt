@@ -10,16 +10,17 @@ use Rattle.gen_kit.specs.Ports.{PortKind, port_kinds, host_name, same_port}
 abbrev pub high_of : ℕ → ℕ
 high_of k = if (k == 1) || ((k == 2) || (k == 10)) then 31 else 0
 
--- the front of its name
-abbrev pub head_of : ℕ → List ℕ
-head_of k = option_map_or (λ (x : PortKind). x.head) (slice_get port_kinds k) []
+-- the front of the name of a port of this kind
+abbrev pub kind_head : ℕ → List ℕ
+kind_head k = option_map_or (λ (x : PortKind). x.head) (slice_get port_kinds k) []
 
-abbrev pub host_of : PortSpec → Host
-host_of s = record { tile = s.tile; domain = s.domain }
+-- the attachment that has the port
+abbrev pub spec_host : PortSpec → Host
+spec_host s = record { tile = s.tile; domain = s.domain }
 
 -- the port that is described
 abbrev pub port_of : PortSpec → Port
-port_of s = record { output = s.output; high = s.high; name = host_name (head_of s.kind) (host_of s) }
+port_of s = record { output = s.output; high = s.high; name = host_name (kind_head s.kind) (spec_host s) }
 
 -- there is such a kind, with this direction and width
 pub record IsSpec (s : PortSpec) : Type 0 where

@@ -2,7 +2,7 @@
 
 ghost use Rattle.std.specs.Prelude.{◌≡◌, ◌≢◌, ◌<◌, ◌≤◌, ◌∷◌, ◌++◌, ℕ, List, nat_le, length, Some, IfSome, IfNone, slice_get, decimal, bytes_eq};
 ghost use Rattle.gen_kit.specs.Ports.{top_ports, host_name, same_port, difference};
-ghost use Rattle.gen_kit.specs.PortSpec.{high_of, head_of, port_of, same_at, IsSpec};
+ghost use Rattle.gen_kit.specs.PortSpec.{high_of, kind_head, port_of, same_at, IsSpec};
 
 use noc_model::Plan;
 use surf_base::decimal;
@@ -59,9 +59,9 @@ pub fn top_port(plan: &Plan, i: u32) -> PortSpec
     }
 }
 
-// The front of the name of a port of this kind.
+/// The front of the name of a port of this kind.
 fn head(kind: u32) -> &'static [u8]
-    ensures { result.now ≡ head_of kind }
+    ensures { result.now ≡ kind_head kind }
 {
     match kind {
         0 => b"ov",
@@ -79,7 +79,7 @@ fn head(kind: u32) -> &'static [u8]
     }
 }
 
-// What stands behind the front, if the name begins with it.
+/// What stands behind the front, if the name begins with it.
 #[tactic(auto, using(crate::proofs::Behind::behinds))]
 fn behind<'a>(name: &'a [u8], front: &[u8]) -> Option<&'a [u8]>
     ensures same { IfSome result (λ rest. name.now ≡ front.now ++ rest.now) }
@@ -95,7 +95,7 @@ fn behind<'a>(name: &'a [u8], front: &[u8]) -> Option<&'a [u8]>
     None
 }
 
-// What stands behind an underscore and the number, if the name begins with them.
+/// What stands behind an underscore and the number, if the name begins with them.
 fn behind_number<'a>(name: &'a [u8], number: u32) -> Option<&'a [u8]>
     ensures same { IfSome result (λ rest. name.now ≡ (95 ∷ decimal number) ++ rest.now) }
     ensures other { IfNone result ((rest : List ℕ) → name.now ≢ (95 ∷ decimal number) ++ rest) }
@@ -108,7 +108,7 @@ fn behind_number<'a>(name: &'a [u8], number: u32) -> Option<&'a [u8]>
     }
 }
 
-// Whether this is the name of a port of the tile and the domain, with this front.
+/// Whether this is the name of a port of the tile and the domain, with this front.
 fn is_name_of(name: &[u8], front: &[u8], tile: u32, domain: u32) -> bool
     ensures { result ≡ bytes_eq name.now (host_name front.now (record { tile = tile; domain = domain })) }
 {
@@ -139,7 +139,7 @@ impl PortSpec {
     }
 }
 
-// Whether both lists have the same port at the position.
+/// Whether both lists have the same port at the position.
 fn is_same(plan: &Plan, ports: &[Port], i: u32) -> bool
     requires { i < length (top_ports plan.now) }
     ensures { result ≡ same_at (slice_get ports.now i) (slice_get (top_ports plan.now) i) }

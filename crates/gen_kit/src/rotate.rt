@@ -27,7 +27,7 @@ pub struct Rotate {
     pub high: u32,
 }
 
-// Whether an expression of `high + 1` bits is 0.
+/// Whether an expression of `high + 1` bits is 0.
 fn empty(alloc: Global, high: u32, e: Expr) -> Result<Expr, AllocError>
     requires { high < 64 }
     ensures { IfOk result (λ r. read r ≡ is_empty high (read e)) }
@@ -35,7 +35,7 @@ fn empty(alloc: Global, high: u32, e: Expr) -> Result<Expr, AllocError>
     two(alloc, Op::Equal, e, number(high + 1, 0))
 }
 
-// `high + 1` bits that are 1.
+/// `high + 1` bits that are 1.
 fn ones(high: u32) -> u64
     requires high { high < 64 }
     ensures { result ≡ 2 ^ (high + 1) - 1 }

@@ -24,7 +24,7 @@ fn numbers_follow_the_front(rt: HostRuntime) -> Result<(), Fail> {
     Ok(())
 }
 
-// An expression with every operator that a builder gives.
+/// An expression with every operator that a builder gives.
 fn every_builder(alloc: Global) -> Result<Expr, AllocError> {
     let name = name_of(alloc, b"n", &[0])?;
     let index = bit(alloc, &name, 0)?;

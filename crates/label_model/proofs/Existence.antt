@@ -92,7 +92,7 @@ module _ (d : Design) (sound : IsSound d) (owner : Name → ℕ) (inside : Name 
   abbrev I : Name → Labels
   I = by_instance d.leaves d.top.items (λ l n js. instance_labels l js T (inside n)) inside
 
-  at-name : EachInstance d (λ l i js. I i ≡ S l i js)
+  pub at-name : EachInstance d (λ l i js. I i ≡ S l i js)
   at-name =
       found-at d.leaves (top_lines d.top) (heading (codes "noc") ∷ map port d.top.ports) d.top.items (λ l n js. instance_labels l js T (inside n)) inside (known d sound)
       (passes-behind name_twice d.leaves (top_lines d.top) [] (heading (codes "noc") ∷ map port d.top.ports) (map joint d.top.items) (top-sound d sound.rules).once)

@@ -85,7 +85,7 @@ module _ (d : Design) (sound : IsSound d) where
   abbrev Kept : (Name → Labels) → (Name → Labels) → Type 0
   Kept a b = EachInstance d (λ leaf k js. KeptIn leaf (a k) (b k))
 
-  kept-trans : (a b c : Name → Labels) → Kept a b → Kept b c → Kept a c
+  pub kept-trans : (a b c : Name → Labels) → Kept a b → Kept b c → Kept a c
   kept-trans a b c =
       each-both d.leaves (λ leaf k js. KeptIn leaf (a k) (b k)) (λ leaf k js. KeptIn leaf (b k) (c k)) (λ leaf k js. KeptIn leaf (a k) (c k))
       (λ leaf k js p q. (
@@ -93,21 +93,21 @@ module _ (d : Design) (sound : IsSound d) where
         (λ m e i lt. below-both ((a k).word m i) ((b k).word m i) ((c k).word m i) (p.1 m e i lt) (q.1 m e i lt)),
       )) d.top.items
 
-  kept-itself : (a : Name → Labels) → Kept a a
+  pub kept-itself : (a : Name → Labels) → Kept a a
   kept-itself a =
       each-map d.leaves (λ leaf k js. ReadyLeaf leaf) (λ leaf k js. KeptIn leaf (a k) (a k)) (λ leaf k js r. ((λ m e i lt. below-itself ((a k).net m i)), (λ m e i lt. below-itself ((a k).word m i)))) d.top.items (ready d sound)
 
-  kept-left : (a b : Name → Labels) → Kept a (λ k. join_all (a k) (b k))
+  pub kept-left : (a b : Name → Labels) → Kept a (λ k. join_all (a k) (b k))
   kept-left a b =
       each-map d.leaves (λ leaf k js. ReadyLeaf leaf) (λ leaf k js. KeptIn leaf (a k) (join_all (a k) (b k)))
       (λ leaf k js r. ((λ m e i lt. join-left ((a k).net m i) ((b k).net m i)), (λ m e i lt. join-left ((a k).word m i) ((b k).word m i)))) d.top.items (ready d sound)
 
-  kept-right : (a b : Name → Labels) → Kept b (λ k. join_all (a k) (b k))
+  pub kept-right : (a b : Name → Labels) → Kept b (λ k. join_all (a k) (b k))
   kept-right a b =
       each-map d.leaves (λ leaf k js. ReadyLeaf leaf) (λ leaf k js. KeptIn leaf (b k) (join_all (a k) (b k)))
       (λ leaf k js r. ((λ m e i lt. join-right ((a k).net m i) ((b k).net m i)), (λ m e i lt. join-right ((a k).word m i) ((b k).word m i)))) d.top.items (ready d sound)
 
-  kept-least : (a b c : Name → Labels) → Kept a c → Kept b c → Kept (λ k. join_all (a k) (b k)) c
+  pub kept-least : (a b c : Name → Labels) → Kept a c → Kept b c → Kept (λ k. join_all (a k) (b k)) c
   kept-least a b c =
       each-both d.leaves (λ leaf k js. KeptIn leaf (a k) (c k)) (λ leaf k js. KeptIn leaf (b k) (c k)) (λ leaf k js. KeptIn leaf (join_all (a k) (b k)) (c k))
       (λ leaf k js p q. (
@@ -117,7 +117,7 @@ module _ (d : Design) (sound : IsSound d) where
 
   -- ---- reset
 
-  first-here : EachInstance d (λ leaf k js. first_labels d k ≡ begun leaf.items nothing)
+  pub first-here : EachInstance d (λ leaf k js. first_labels d k ≡ begun leaf.items nothing)
   first-here =
       found-at d.leaves (top_lines d.top) (heading (codes "noc") ∷ map port d.top.ports) d.top.items (λ l n js. instance_begun l) (λ n. nothing) (known d sound)
       (passes-behind name_twice d.leaves (top_lines d.top) [] (heading (codes "noc") ∷ map port d.top.ports) (map joint d.top.items) (top-sound d sound.rules).once)
@@ -151,7 +151,7 @@ module _ (d : Design) (sound : IsSound d) where
           (λ m r i lt. subst (λ f. IsBelow ((a k).word m i) (f m i)) (sym e.1) (below-itself ((a k).word m i))),
         )) d.top.items (labels-exist d sound owner a).1
 
-    nets-below : (a : Name → Labels) → Kept (nets a).inside a
+    pub nets-below : (a : Name → Labels) → Kept (nets a).inside a
     nets-below a =
         each-map d.leaves (λ leaf k js. ((m : Name) → is_kind is_register (leaf_lines leaf) m ≡ true → ((nets a).inside k).net m ≡ (a k).net m) × (((nets a).inside k).word ≡ (a k).word))
         (λ leaf k js. KeptIn leaf ((nets a).inside k) (a k))
@@ -165,7 +165,7 @@ module _ (d : Design) (sound : IsSound d) where
     next : (Name → Labels) → Name → Labels
     next a = next_labels d owner a
 
-    next-here : (a : Name → Labels) → EachInstance d (λ leaf k js. next_labels d owner a k ≡ carried (leaf_widths leaf) ((nets a).inside k) leaf.items ((nets a).inside k))
+    pub next-here : (a : Name → Labels) → EachInstance d (λ leaf k js. next_labels d owner a k ≡ carried (leaf_widths leaf) ((nets a).inside k) leaf.items ((nets a).inside k))
     unfolding next_labels
     next-here a =
         found-at d.leaves (top_lines d.top) (heading (codes "noc") ∷ map port d.top.ports) d.top.items (λ l n js. instance_carried l ((nets a).inside n)) a (known d sound)

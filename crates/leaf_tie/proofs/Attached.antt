@@ -180,7 +180,7 @@ module _ (p : Plan) (n d : ℕ) (a : AttachNames) (q : PortNames) (z : AttachSiz
   enters-net = (held-back (Holds w v) (look_nets (q.address d) a.look z.dest_bits (reach p d)) _ hold.nets).1.1.1.1.1.1.1.1.1.0
 
   word-net : v.net a.word ≡ value_of w v (entry_word p n a (q.last d) (q.payload d) z.dest_bits)
-  word-net = (held-back (Holds w v) (look_nets (q.address d) a.look z.dest_bits (reach p d)) _ hold.nets).1.1.1.1.1.1.1.1.1.1.1.0
+  word-net = (held-back (Holds w v) (look_nets (q.address d) a.look z.dest_bits (reach p d)) _ hold.nets).1.1.1.1.1.1.1.1.1.1.0
 
   -- ---- where a word goes
 

@@ -697,7 +697,7 @@ module _ (p : Plan) (n d : ℕ) (names : LeafNames) (nets : NetNames) (q : PortN
           (input.links port m e).1.shown ∙ ap (link_code (flit_code dest_bits) link_flit link_channel) word ∙ ap (λ k. link_code (flit_code dest_bits) k link_channel (Some x)) fits.flits in
           let held = link-word dest_bits link_channel x.channel x.flit fits.some_dest dest_fits ((input.links port m e).1.payload x word) in
           let wide : 33 + dest_bits - 0 + 1 ≡ 34 + dest_bits = omega arith in
-          ap v.net (runs.one_word port c there_link) ∙ nets_hold.nets.1.1.1.0
+          ap v.net (runs.one_word port c there_link) ∙ nets_hold.nets.1.1.0
           ∙ cat-two w v (route_bits p n (nets.goal port) dest_bits) (part (q.link_in port) (33 + dest_bits) 0) (34 + dest_bits) wide
           ∙ ap (λ k. k * 2 ^ (34 + dest_bits) + v.net (q.link_in port) / 2 ^ 0 % 2 ^ (33 + dest_bits - 0 + 1))
           (routed-to p n dest_bits w v (nets.goal port) x.flit.dest (nets_hold.nets.1.0 ∙ ap (λ k. k / 2 ^ 32 % 2 ^ (31 + dest_bits - 32 + 1)) shown ∙ held.dest) dest_fits)

@@ -1,7 +1,7 @@
 -- The output ports of a leaf show what its tile parts give out.
 use Rattle.std.proofs.Common.{◌≡◌, ℕ, ◌+◌, ◌-◌, ◌*◌, ◌/◌, ◌%◌, ◌<◌, ◌≤◌, ◌^◌, Bool, true, false, length, Option, refl, ◌∙◌, ap, arith, ◌==◌}
 use Rattle.std.specs.Prelude.{Some, None}
-use Rattle.std.proofs.Math.Nat.{mod-eq_of_lt, mul-add-mod_self_right, div-one, zero-div}
+use Rattle.std.proofs.Math.Nat.{mod-eq_of_lt, mul-add-mod_self_right, div-one, zero-div, zero-mod}
 use Rattle.std.proofs.lemmas.Nat.Bits.{bit_at_cat_high}
 use Rattle.vl_model.specs.Meaning.{Widths, Values, one_if}
 use Rattle.gen_kit.specs.Groups.{HoldsIn}
@@ -77,10 +77,15 @@ outs-shown p n names nets out size dest_bits link_flit link_channel w v t s shar
 
     shown : (d : ℕ) → d < length p.domains → hosts p n d ≡ true → (x : Option Flit) → (s d).ejected ≡ x → EjectedShown out d v x
     shown d below h None e =
-        (locals d below h).nets.0 ∙ ap (λ k. k / 2 ^ 34 % 2) ((tie.domains d below).ejected h ∙ ap ejected_code e) ∙ nothing (2 ^ 34)
+        let place : v.net (names.ejected d) ≡ 0 = (tie.domains d below).ejected h ∙ ap ejected_code e in (
+          (locals d below h).nets.0 ∙ ap (λ k. k / 2 ^ 34 % 2) place ∙ nothing (2 ^ 34) 2,
+          (locals d below h).nets.1.0 ∙ ap (λ k. k / 2 ^ 33 % 2) place ∙ nothing (2 ^ 33) 2,
+          (locals d below h).nets.1.1.0 ∙ ap (λ k. k / 2 ^ 32 % 2) place ∙ nothing (2 ^ 32) 2,
+          (locals d below h).nets.1.1.1.0 ∙ ap (λ k. k / 2 ^ 0 % 2 ^ (31 - 0 + 1)) place ∙ nothing (2 ^ 0) (2 ^ (31 - 0 + 1)),
+        )
       where
-        nothing : (k : ℕ) → 0 / k % 2 ≡ 0
-        nothing k = rw (zero-div k) refl
+        nothing : (k m : ℕ) → 0 / k % m ≡ 0
+        nothing k m = rw (zero-div k) (zero-mod m)
     shown d below h (Some f) e =
         let place : v.net (names.ejected d) ≡ ejected_code (Some f) = (tie.domains d below).ejected h ∙ ap ejected_code e in
         let bits = ejected-bits f ((tie.domains d below).held f e) in (

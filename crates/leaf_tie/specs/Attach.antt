@@ -1,7 +1,7 @@
 -- The attachment of a domain at a tile: whether a word is taken, where its packet goes, and what enters.
 use Rattle.std.specs.Prelude.{◌≡◌, ℕ, zero, suc, ◌+◌, ◌-◌, ◌<◌, ◌≤◌, ◌^◌, List, [], ◌∷◌, ◌++◌, length, Option, Some, None, filter}
 use Rattle.vl_tree.specs.declared.tree.Op.TheVariants.{And, Or, Add, Equal, Less}
-use Rattle.vl_tree.specs.Values.{Name, Expr, net, bit, part, not, two, choose, cat, no_parts, parts, Item, reg, clocked}
+use Rattle.vl_tree.specs.Values.{Name, Expr, net, bit, part, not, two, choose, cat, no_parts, parts, Item, wire, reg, assign, clocked}
 use Rattle.vl_model.specs.Meaning.{Widths, Values}
 use Rattle.gen_kit.specs.Families.{in_bits, defined, or_upto}
 use Rattle.gen_kit.specs.Mux.{table}
@@ -84,11 +84,12 @@ abbrev pub entry_word : Plan → ℕ → AttachNames → Name → Name → ℕ �
 entry_word p n a last payload b = cat (parts (table a.to (ports p) (λ to. 2 ^ route p n to) 0 b) (parts (not
     (net a.passing)) (parts (net last) (parts (net a.to) (parts (net payload) no_parts)))))
 
--- the group: a word is offered by the ports
+-- the group: a word is offered by the ports. Buffers use the net of the word that is stored before it is assigned
 abbrev pub attach_group : Plan → ℕ → ℕ → AttachNames → PortNames → AttachSize → Group
 attach_group p n d a q z = record {
   heads =
-      reg 0 a.passing ∷ reg 0 a.dropping ∷ reg (z.dest_bits - 1) a.dest ∷ reg z.ch a.current ∷ reg 0 a.dropped ∷ [];
+      reg 0 a.passing ∷ reg 0 a.dropping ∷ reg (z.dest_bits - 1) a.dest ∷ reg z.ch a.current ∷ reg 0 a.dropped
+      ∷ wire z.wh a.word ∷ [];
   nets =
       look_nets (q.address d) a.look z.dest_bits (reach p d)
       ++ (defined z.dest_bits a.found (looked a.look z.dest_bits (length (reach p d)))
@@ -96,7 +97,7 @@ attach_group p n d a q z = record {
       ++ (defined 0 a.goes (two Or (net a.passing) (two And (not (net a.dropping)) (bit a.found z.dest_bits)))
       ++ (defined (z.dest_bits - 1) a.to (choose (net a.passing) (net a.dest) (part a.found (z.dest_bits - 1) 0))
       ++ (defined 0 a.enters (two And (net a.taken) (net a.goes))
-      ++ defined z.wh a.word (entry_word p n a (q.last d) (q.payload d) z.dest_bits))))));
+      ++ (assign a.word (entry_word p n a (q.last d) (q.payload d) z.dest_bits) ∷ []))))));
   moves =
       clocked a.passing (record { width = 1; value = 0 })
       (choose (net a.taken) (two And (not (net (q.last d))) (net a.goes)) (net a.passing))

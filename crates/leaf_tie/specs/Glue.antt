@@ -230,13 +230,14 @@ word_group p n names nets dest_bits link_flit link_channel d o =
 abbrev pub route_bits : Plan → ℕ → Name → ℕ → Expr
 route_bits p n dest dest_bits = table dest (ports p) (λ to. 2 ^ route p n to) 0 dest_bits
 
--- where the flit goes that arrives by a link, and the word of it that a buffer stores
+-- where the flit goes that arrives by a link, and the word of it that buffers store: they use its net before it is
+-- assigned
 abbrev pub arrival_group : Plan → ℕ → NetNames → PortNames → BufferSize → ℕ → ℕ → Group
 arrival_group p n nets q size dest_bits port = record {
-  heads = [];
+  heads = wire size.wh (nets.stored port) ∷ [];
   nets =
       wire (dest_bits - 1) (nets.goal port) ∷ assign (nets.goal port) (part (q.link_in port) (31 + dest_bits) 32)
-      ∷ wire size.wh (nets.stored port) ∷ assign (nets.stored port) (cat (parts (route_bits p n (nets.goal port)
+      ∷ assign (nets.stored port) (cat (parts (route_bits p n (nets.goal port)
       dest_bits) (parts (part (q.link_in port) (33 + dest_bits) 0) no_parts)))
       ∷ [];
   moves = [];

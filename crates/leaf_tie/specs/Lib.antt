@@ -11,6 +11,7 @@ pub mod Counts
 pub mod Fits
 pub mod Glue
 pub mod Whole
+pub mod Names
 pub mod Outs
 pub mod Sizes
 pub mod Laws

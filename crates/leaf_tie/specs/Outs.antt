@@ -60,9 +60,10 @@ credit_out_group names bundle port first count domain channel = record {
   moves = [];
 }
 
--- the flit in the ejection place, as the ports show it
+-- the flit in the ejection place, as the ports show it: all are 0 where there is none
 abbrev pub EjectedShown : OutNames → ℕ → Values → Option Flit → Type 0
-EjectedShown out d v None = v.net (out.valid d) ≡ 0
+EjectedShown out d v None = (v.net (out.valid d) ≡ 0) × (v.net (out.head d) ≡ 0) × (v.net (out.tail d) ≡ 0)
+    × (v.net (out.payload d) ≡ 0)
 EjectedShown out d v (Some f) = (v.net (out.valid d) ≡ 1) × (v.net (out.head d) ≡ one_if f.head)
     × (v.net (out.tail d) ≡ one_if f.tail) × (v.net (out.payload d) ≡ f.payload)
 

@@ -66,7 +66,8 @@ draft_at-document d =
 
 -- ---- the faults of a document
 
-fit-by : {A : Type 0} (e : Element) (f : A → Data) → ((x : A) → fits_element e (f x) ≡ true) → (xs : List A) → all_fit e (items_by f xs) ≡ true
+fit-by : {A : Type 0} (e : Element) (f : A → Data) → ((x : A) → fits_element e (f x) ≡ true) → (xs : List A)
+    → all_fit e (items_by f xs) ≡ true
 fit-by e f each [] = refl
 fit-by e f each (x ∷ xs) = rw (each x) (fit-by e f each xs)
 
@@ -74,26 +75,33 @@ or-assoc : {A : Type 0} (a b c : Option A) → option_or a (option_or b c) ≡ o
 or-assoc None b c = refl
 or-assoc (Some x) b c = refl
 
-first_some-append : (f : Place → Option DescFault) (xs ys : List Place) → first_some f (xs ++ ys) ≡ option_or (first_some f xs) (first_some f ys)
+first_some-append : (f : Place → Option DescFault) (xs ys : List Place)
+    → first_some f (xs ++ ys) ≡ option_or (first_some f xs) (first_some f ys)
 first_some-append f [] ys = refl
-first_some-append f (x ∷ xs) ys = ap (option_or (f x)) (first_some-append f xs ys) ∙ or-assoc (f x) (first_some f xs) (first_some f ys)
+first_some-append f (x ∷ xs) ys =
+    ap (option_or (f x)) (first_some-append f xs ys) ∙ or-assoc (f x) (first_some f xs) (first_some f ys)
 
-elements-clean : {A : Type 0} (flaw : Flaw) (kind : Kind) (m : A → Members) → ((x : A) (i : ℕ) → place_fault flaw (record { kind = kind; element = i; members = m x }) ≡ None)
-    → (n : ℕ) (xs : List A) → first_some (place_fault flaw) (element_tables kind n (items_by (λ x. table (m x)) xs)) ≡ None
+elements-clean : {A : Type 0} (flaw : Flaw) (kind : Kind) (m : A → Members)
+    → ((x : A) (i : ℕ) → place_fault flaw (record { kind = kind; element = i; members = m x }) ≡ None)
+    → (n : ℕ) (xs : List A)
+    → first_some (place_fault flaw) (element_tables kind n (items_by (λ x. table (m x)) xs)) ≡ None
 elements-clean flaw kind m each n [] = refl
 elements-clean flaw kind m each n (x ∷ xs) = rw (each x n) (elements-clean flaw kind m each (n + 1) xs)
 
-domain-clean : (flaw : Flaw) (x : DraftDomain) (i : ℕ) → place_fault flaw (record { kind = Domain; element = i; members = domain_members x }) ≡ None
+domain-clean : (flaw : Flaw) (x : DraftDomain) (i : ℕ)
+    → place_fault flaw (record { kind = Domain; element = i; members = domain_members x }) ≡ None
 domain-clean Unknown x i = refl
 domain-clean Missing x i = refl
 domain-clean Misfit x i = refl
 
-tile-clean : (flaw : Flaw) (x : DraftTile) (i : ℕ) → place_fault flaw (record { kind = Tile; element = i; members = tile_members x }) ≡ None
+tile-clean : (flaw : Flaw) (x : DraftTile) (i : ℕ)
+    → place_fault flaw (record { kind = Tile; element = i; members = tile_members x }) ≡ None
 tile-clean Unknown x i = refl
 tile-clean Missing x i = refl
 tile-clean Misfit x i = rw (fit-by Text string (λ n. refl) x.domains) refl
 
-range-clean : (flaw : Flaw) (x : DraftRange) (i : ℕ) → place_fault flaw (record { kind = Range; element = i; members = range_members x }) ≡ None
+range-clean : (flaw : Flaw) (x : DraftRange) (i : ℕ)
+    → place_fault flaw (record { kind = Range; element = i; members = range_members x }) ≡ None
 range-clean Unknown x i = refl
 range-clean Missing x i = refl
 range-clean Misfit x i = refl
@@ -102,7 +110,8 @@ range-clean Misfit x i = refl
 abbrev weighted : Draft → Draft
 weighted d = record d { version = pos 2 }
 
-top-clean : (flaw : Flaw) (d : Draft) → place_fault flaw (record { kind = WeightedTop; element = 0; members = document (weighted d) }) ≡ None
+top-clean : (flaw : Flaw) (d : Draft)
+    → place_fault flaw (record { kind = WeightedTop; element = 0; members = document (weighted d) }) ≡ None
 top-clean Unknown d = refl
 top-clean Missing d = refl
 top-clean Misfit d =
@@ -122,7 +131,8 @@ flaw-clean flaw d =
     let rs = element_tables Range 0 (items_by range_data d.ranges) in
     rw (top-clean flaw d)
     (first_some-append f ds (ts ++ rs) ∙ ap (λ o. option_or o (first_some f (ts ++ rs))) (elements-clean flaw Domain domain_members (domain-clean flaw) 0 d.domains)
-    ∙ first_some-append f ts rs ∙ ap (λ o. option_or o (first_some f rs)) (elements-clean flaw Tile tile_members (tile-clean flaw) 0 d.tiles)
+    ∙ first_some-append f ts rs
+    ∙ ap (λ o. option_or o (first_some f rs)) (elements-clean flaw Tile tile_members (tile-clean flaw) 0 d.tiles)
     ∙ elements-clean flaw Range range_members (range-clean flaw) 0 d.ranges)
 
 weighted-clean : (d : Draft) → table_fault (document (weighted d)) ≡ None
@@ -133,7 +143,8 @@ pub table_fault-document : (d : Draft) → d.version ≡ pos 2 → table_fault (
 table_fault-document d e = ap (λ v. table_fault (document (record d { version = v }))) e ∙ weighted-clean d
 
 -- what is written has no fault
-pub none-written : (bytes : List ℕ) (d : Draft) → table_of bytes ≡ Some (document d) → d.version ≡ pos 2 → first_fault bytes ≡ None
+pub none-written : (bytes : List ℕ) (d : Draft) → table_of bytes ≡ Some (document d) → d.version ≡ pos 2
+    → first_fault bytes ≡ None
 none-written bytes d is e = ap fault_of is ∙ table_fault-document d e
 
 -- what is written is read as the draft

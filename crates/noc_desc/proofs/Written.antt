@@ -27,11 +27,13 @@ put-at Equal k v e es ih = refl
 put-at Greater k v e es ih = ap (member (string_bytes e.0) (view e.1)) ih
 
 -- a value put into a table is put among its members
-pub put-is : (es : List Entry) (k : String Global) (v : Value) → members_view (insert_entry string_cmp es k v) ≡ put_member (string_bytes k) (view v) (members_view es)
+pub put-is : (es : List Entry) (k : String Global) (v : Value)
+    → members_view (insert_entry string_cmp es k v) ≡ put_member (string_bytes k) (view v) (members_view es)
 put-is [] k v = refl
 put-is (e ∷ es) k v = put-at (string_cmp k e.0) k v e es (put-is es k v)
 
-by-more : {A : Type 0} (f : A → Data) (xs : List A) (i : ℕ) (z : A) → i < length xs → push_item (items_by f (take i xs)) (f (get_or xs i z)) ≡ items_by f (take (i + 1) xs)
+by-more : {A : Type 0} (f : A → Data) (xs : List A) (i : ℕ) (z : A) → i < length xs
+    → push_item (items_by f (take i xs)) (f (get_or xs i z)) ≡ items_by f (take (i + 1) xs)
 by-more f [] i z less = absurd (omega (arith, less))
 by-more f (x ∷ xs) zero z less = refl
 by-more f (x ∷ xs) (suc i) z less =
@@ -39,18 +41,22 @@ by-more f (x ∷ xs) (suc i) z less =
     rw e (ap (item (f x)) (by-more f xs i z (omega (arith, less))))
 
 -- one element more
-pub array-more : {A : Type 0} (f : A → Data) (xs : List A) (i : ℕ) (z : A) (vs : List Value) (v : Value) → i < length xs → items_view vs ≡ items_by f (take i xs) → view v ≡ f (get_or xs i z)
+pub array-more : {A : Type 0} (f : A → Data) (xs : List A) (i : ℕ) (z : A) (vs : List Value) (v : Value) → i < length xs
+    → items_view vs ≡ items_by f (take i xs) → view v ≡ f (get_or xs i z)
     → items_view (vs ++ v ∷ []) ≡ items_by f (take (i + 1) xs)
 array-more f xs i z vs v less so_far is =
-    items_view-push vs v ∙ ap (λ t. push_item t (view v)) so_far ∙ ap (push_item (items_by f (take i xs))) is ∙ by-more f xs i z less
+    items_view-push vs v ∙ ap (λ t. push_item t (view v)) so_far ∙ ap (push_item (items_by f (take i xs))) is
+    ∙ by-more f xs i z less
 
 -- all elements
-pub array-whole : {A : Type 0} (f : A → Data) (xs : List A) (i : ℕ) (v : Vec Value Global) → length xs ≤ i → items_view v.items ≡ items_by f (take i xs) → view (Array v) ≡ array_by f xs
+pub array-whole : {A : Type 0} (f : A → Data) (xs : List A) (i : ℕ) (v : Vec Value Global) → length xs ≤ i
+    → items_view v.items ≡ items_by f (take i xs) → view (Array v) ≡ array_by f xs
 array-whole f xs i v past so_far = view-Array v ∙ ap array (so_far ∙ ap (items_by f) (take_all i xs past))
 
 -- ---- how deep a document nests
 
-by-depth : {A : Type 0} (f : A → Data) (n : ℕ) → ((x : A) → depth (f x) ≤ n) → (xs : List A) → items_depth (items_by f xs) ≤ n
+by-depth : {A : Type 0} (f : A → Data) (n : ℕ) → ((x : A) → depth (f x) ≤ n) → (xs : List A)
+    → items_depth (items_by f xs) ≤ n
 by-depth f n each [] = omega arith
 by-depth f n each (x ∷ xs) = (let a = each x in let b = by-depth f n each xs in omega (arith, a, b))
 
@@ -69,7 +75,8 @@ document-depth d =
 -- ---- the text of a document
 
 -- what is written has the draft's table
-pub table-written : (bytes : List ℕ) (members : Members) (d : Draft) → IsUtf8 bytes → (members_depth members ≤ 80 → parse_document bytes ≡ Some members) → members ≡ document d
+pub table-written : (bytes : List ℕ) (members : Members) (d : Draft) → IsUtf8 bytes
+    → (members_depth members ≤ 80 → parse_document bytes ≡ Some members) → members ≡ document d
     → table_of bytes ≡ Some (document d)
 unfolding table_of
 table-written bytes members d text reads is =

@@ -45,8 +45,8 @@ fn reads_two_tiles(rt: HostRuntime) -> Result<(), Fail> {
 #[test]
 fn reads_weighted_slots(rt: HostRuntime) -> Result<(), Fail> {
     let alloc = rt.alloc();
-    let text =
-        "version = 2\nshape = \"torus\"\ndims = [4, 4]\nstages = 1\nbuffer = 2\ndomain = []\nslots = [\"a\", \"a\", \"b\"]\n";
+    let text = "version = 2\nshape = \"torus\"\ndims = [4, 4]\nstages = 1\nbuffer = 2\n\
+         domain = []\nslots = [\"a\", \"a\", \"b\"]\n";
     let draft = read_draft(alloc, text.as_bytes())?;
     assert_eq!(rt; draft.version, 2);
     assert_eq!(rt; draft.dims.len(), 2);

@@ -26,7 +26,8 @@ use Rattle.noc_model.proofs.Switch.{sent-by, grant-ready}
 -- ---- routes
 
 -- no way leads on only where all coordinates are the same
-no_way : (torus : Bool) (i : ℕ) (ks xs ys : List ℕ) → Within ks xs → Within ks ys → way_from torus i ks xs ys ≡ Local → xs ≡ ys
+no_way : (torus : Bool) (i : ℕ) (ks xs ys : List ℕ) → Within ks xs → Within ks ys → way_from torus i ks xs ys ≡ Local
+    → xs ≡ ys
 no_way torus i [] [] [] hx hy e = refl
 no_way torus i [] [] (y ∷ ys) hx hy e = absurd hy
 no_way torus i [] (x ∷ xs) ys hx hy e = absurd hx
@@ -38,7 +39,8 @@ no_way torus i (k ∷ ks) (x ∷ xs) (y ∷ ys) hx hy e = go (x == y) refl e (no
     turn true h = cc h
     turn false h = cc h
 
-    go : (b : Bool) → (x == y) ≡ b → (if b then way_from torus (suc i) ks xs ys else (if goes_plus torus k x y then Plus i else Minus i)) ≡ Local
+    go : (b : Bool) → (x == y) ≡ b
+        → (if b then way_from torus (suc i) ks xs ys else (if goes_plus torus k x y then Plus i else Minus i)) ≡ Local
         → (way_from torus (suc i) ks xs ys ≡ Local → xs ≡ ys) → x ∷ xs ≡ y ∷ ys
     go true is h rest =
         let same : x ≡ y = grind (arith, nat_tests, is) in
@@ -46,17 +48,21 @@ no_way torus i (k ∷ ks) (x ∷ xs) (y ∷ ys) hx hy e = go (x == y) refl e (no
     go false is h rest = absurd (turn (goes_plus torus k x y) h)
 
 -- a flit leaves the network only at the tile that it names
-pub route-home : (p : Plan) (n dest : ℕ) → AllPositive p.dims → n < tiles p → dest < tiles p → route p n dest ≡ 0 → n ≡ dest
+pub route-home : (p : Plan) (n dest : ℕ) → AllPositive p.dims → n < tiles p → dest < tiles p → route p n dest ≡ 0
+    → n ≡ dest
 unfolding route
 route-home p n dest positive inside there e =
     let way : Way = way_from p.torus 0 p.dims (coords_in p.dims n) (coords_in p.dims dest) in
     let local : way ≡ Local = sym (way_of-port_of way) ∙ ap way_of e in
-    let same = no_way p.torus 0 p.dims (coords_in p.dims n) (coords_in p.dims dest) (within-coords_in p.dims n positive) (within-coords_in p.dims dest positive) local in
-    sym (tile_in-coords_in p.dims n positive inside) ∙ ap (tile_in p.dims) same ∙ tile_in-coords_in p.dims dest positive there
+    let same =
+    no_way p.torus 0 p.dims (coords_in p.dims n) (coords_in p.dims dest) (within-coords_in p.dims n positive) (within-coords_in p.dims dest positive) local in
+    sym (tile_in-coords_in p.dims n positive inside) ∙ ap (tile_in p.dims) same
+    ∙ tile_in-coords_in p.dims dest positive there
 
 -- ---- packets go on
 
-goes-on : (p : Plan) (d n : ℕ) (fs : List Flit) → IsSound p → n < tiles p → hosts p n d ≡ false → All (GoesHome p d) fs → GoesOn (routed p n fs Idle)
+goes-on : (p : Plan) (d n : ℕ) (fs : List Flit) → IsSound p → n < tiles p → hosts p n d ≡ false → All (GoesHome p d) fs
+    → GoesOn (routed p n fs Idle)
 goes-on p d n [] sound inside away home = tt
 goes-on p d n (f ∷ fs) sound inside away home =
     let first : GoesHome p d f = All-head (GoesHome p d) f fs home in
@@ -64,7 +70,8 @@ goes-on p d n (f ∷ fs) sound inside away home =
     let here : hosts p n d ≡ true = subst (λ m. hosts p m d ≡ true) (sym same) first in
     cc (here, away))
 
-pub away-step : (p : Plan) (d n : ℕ) (t : ℤ) (s : Tile) (i : TileIn) (port c : ℕ) → IsSound p → n < tiles p → hosts p n d ≡ false
+pub away-step : (p : Plan) (d n : ℕ) (t : ℤ) (s : Tile) (i : TileIn) (port c : ℕ) → IsSound p → n < tiles p
+    → hosts p n d ≡ false
     → All (GoesHome p d) (s.queue port c) → GoesOn (s.stage port c) → GoesOn ((tile_step p d n t s i).stage port c)
 unfolding tile_step
 away-step p d n t s i port c sound inside away home on = go (s.stage port c) on
@@ -85,7 +92,8 @@ away-step p d n t s i port c sound inside away home on = go (s.stage port c) on
 
 -- ---- the attachment has nothing
 
-pub nothing-ejected : (p : Plan) (d n : ℕ) (t : ℤ) (s : Tile) (i : TileIn) → ((port c : ℕ) → GoesOn (s.stage port c)) → sent p d n t s i 0 ≡ None
+pub nothing-ejected : (p : Plan) (d n : ℕ) (t : ℤ) (s : Tile) (i : TileIn) → ((port c : ℕ) → GoesOn (s.stage port c))
+    → sent p d n t s i 0 ≡ None
 nothing-ejected p d n t s i on = go (sent p d n t s i 0) refl
   where
     onward : (st : Stage) (o w : ℕ) → GoesOn st → st ≡ Active o w → o ≢ 0
@@ -98,7 +106,8 @@ nothing-ejected p d n t s i on = go (sent p d n t s i 0) refl
         let ready = grant-ready p d n t s i by.port by.by by.granted in
         absurd (onward (s.stage by.port by.by.channel) by.by.out by.by.to (on by.port by.by.channel) ready.active by.out)
 
-pub unattached-step : (p : Plan) (d n : ℕ) (t : ℤ) (s : Tile) (i : TileIn) → i.offer ≡ None → ((port c : ℕ) → GoesOn (s.stage port c)) → IsUnattached s
+pub unattached-step : (p : Plan) (d n : ℕ) (t : ℤ) (s : Tile) (i : TileIn) → i.offer ≡ None
+    → ((port c : ℕ) → GoesOn (s.stage port c)) → IsUnattached s
     → IsUnattached (tile_step p d n t s i)
 unfolding tile_step word_in
 unattached-step p d n t s i none on bare =

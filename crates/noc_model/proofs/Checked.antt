@@ -59,7 +59,8 @@ lists p =
 -- ---- what they say
 
 -- pairs with the first element, and pairs of the rest
-pairs-cons : {X : Type 0} (R : X → X → Type 0) (x : X) (xs : List X) → All (R x) xs → AllPairs R xs → AllPairs R (x ∷ xs)
+pairs-cons : {X : Type 0} (R : X → X → Type 0) (x : X) (xs : List X) → All (R x) xs → AllPairs R xs
+    → AllPairs R (x ∷ xs)
 pairs-cons R x xs first rest zero zero d less below = absurd (omega arith)
 pairs-cons R x xs first rest zero (suc j) d less below = first j d (omega arith)
 pairs-cons R x xs first rest (suc i) zero d less below = absurd (omega arith)
@@ -81,14 +82,19 @@ eq m n h = grind (arith, nat_tests)
 within-says : (low high n : ℕ) → within low high n ≡ true → (low ≤ n) × (n ≤ high)
 within-says low high n h = let parts = both (nat_le low n) (nat_le n high) h in (le low n parts.0, le n high parts.1)
 
-recursion : {X : Type 0} (p : X → Bool) (P : X → Type 0) → ((x : X) → p x ≡ true → P x) → (xs : List X) → list_all p xs ≡ true → AllByRecursion P xs
+recursion : {X : Type 0} (p : X → Bool) (P : X → Type 0) → ((x : X) → p x ≡ true → P x) → (xs : List X)
+    → list_all p xs ≡ true → AllByRecursion P xs
 recursion p P each [] h = tt
-recursion p P each (x ∷ xs) h = let parts = both (p x) (list_all p xs) h in (each x parts.0, recursion p P each xs parts.1)
+recursion p P each (x ∷ xs) h =
+    let parts = both (p x) (list_all p xs) h in
+    (each x parts.0, recursion p P each xs parts.1)
 
-all : {X : Type 0} (p : X → Bool) (P : X → Type 0) → ((x : X) → p x ≡ true → P x) → (xs : List X) → list_all p xs ≡ true → All P xs
+all : {X : Type 0} (p : X → Bool) (P : X → Type 0) → ((x : X) → p x ≡ true → P x) → (xs : List X) → list_all p xs ≡ true
+    → All P xs
 all p P each xs h = All-from_recursion P xs (recursion p P each xs h)
 
-all_pairs : {X : Type 0} (r : X → X → Bool) (R : X → X → Type 0) → ((x y : X) → r x y ≡ true → R x y) → (xs : List X) → pairs r xs ≡ true → AllPairs R xs
+all_pairs : {X : Type 0} (r : X → X → Bool) (R : X → X → Type 0) → ((x y : X) → r x y ≡ true → R x y) → (xs : List X)
+    → pairs r xs ≡ true → AllPairs R xs
 all_pairs r R each [] h = λ i j d less below. absurd (omega arith)
 all_pairs r R each (x ∷ xs) h =
     let parts = both (list_all (r x) xs) (pairs r xs) h in
@@ -156,7 +162,8 @@ sound p s l =
     let l2 = both (list_all (λ (x : DomainPart). is_word x.name) p.domains) _ l1.1 in
     let l3 = both (pairs differ p.domains) _ l2.1 in
     let l4 = both (list_all (λ (x : DomainPart). within 1 most_channels x.channels) p.domains) _ l3.1 in
-    let l5 = both (list_all (λ (h : Host). nat_lt h.tile (tiles p) && nat_lt h.domain (length p.domains)) p.hosts) _ l4.1 in
+    let l5 =
+    both (list_all (λ (h : Host). nat_lt h.tile (tiles p) && nat_lt h.domain (length p.domains)) p.hosts) _ l4.1 in
     let l6 = both (pairs is_before p.hosts) _ l5.1 in
     let l7 = both (list_all (is_range_in (tiles p)) p.ranges) _ l6.1 in
     let l8 = both (pairs are_apart p.ranges) _ l7.1 in

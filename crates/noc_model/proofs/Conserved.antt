@@ -35,7 +35,8 @@ some-counted : (o : Option ℕ) (k : ℕ) → at_some o (λ n. k) ≡ counted (i
 some-counted None k = refl
 some-counted (Some n) k = refl
 
-tiles-matched : (p : Plan) (port : ℕ) → AllPositive p.dims → AreMatched (tiles p) (tiles p) (λ n. neighbour p n port) (λ m. neighbour p m (opposite port))
+tiles-matched : (p : Plan) (port : ℕ) → AllPositive p.dims
+    → AreMatched (tiles p) (tiles p) (λ n. neighbour p n port) (λ m. neighbour p m (opposite port))
 tiles-matched p port positive = record {
   there = λ n m inside e. (neighbour-inside p n port m positive e, (link-from p n port m positive inside e).back);
   here = λ n m inside e. (neighbour-inside p m (opposite port) n positive e, back n m (link-from p m (opposite port) n positive inside e).back);
@@ -58,7 +59,8 @@ unfolding opposite
 opposite-below p zero below = below
 opposite-below p (suc k) below = go (k % 2) refl (omega arith)
   where
-    go : (r : ℕ) → k % 2 ≡ r → r < 2 → port_of (opposite_way (if r == 0 then Plus (k / 2) else Minus (k / 2))) < 1 + 2 * length p.dims
+    go : (r : ℕ) → k % 2 ≡ r → r < 2
+        → port_of (opposite_way (if r == 0 then Plus (k / 2) else Minus (k / 2))) < 1 + 2 * length p.dims
     go zero e h = omega arith
     go (suc zero) e h = omega arith
     go (suc (suc r)) e h = absurd (omega arith)
@@ -106,7 +108,8 @@ arrivals-last v p s positive =
 
 -- ---- one cycle
 
-whole : (p : Plan) (d n : ℕ) (t : ℤ) (s : State) (x : Input) → IsSound p → n < tiles p → IsReached p d t s → IsWhole p d n (s n) (fed p d s x n)
+whole : (p : Plan) (d n : ℕ) (t : ℤ) (s : State) (x : Input) → IsSound p → n < tiles p → IsReached p d t s
+    → IsWhole p d n (s n) (fed p d s x n)
 unfolding arrival
 whole p d n t s x sound inside reached = record {
   placed = placed p d t s reached n inside;
@@ -121,7 +124,8 @@ heard-weight : (v : Flit → ℕ) (p : Plan) (d : ℕ) (s : State) (x : Input) (
     → counted (hosts p n d) (counted (hosts p n d && x.hears n) (weight v (option_to_list (s n).ejected))) ≡ weight v (delivered_at p d s x n)
 heard-weight v p d s x n = go (hosts p n d) (x.hears n) ∙ sym (weight-there v (hosts p n d && x.hears n) (option_to_list (s n).ejected))
   where
-    go : (b c : Bool) → counted b (counted (b && c) (weight v (option_to_list (s n).ejected))) ≡ counted (b && c) (weight v (option_to_list (s n).ejected))
+    go : (b c : Bool)
+        → counted b (counted (b && c) (weight v (option_to_list (s n).ejected))) ≡ counted (b && c) (weight v (option_to_list (s n).ejected))
     go true c = refl
     go false c = refl
 
@@ -158,14 +162,18 @@ conserved-step v p d t s x sound reached =
     let m : ℕ = tiles p in
     let after : ℕ → ℕ = λ n. weight v (inside_tile p d n (step p d t s x n)) in
     let before : ℕ → ℕ = λ n. weight v (inside_tile p d n (s n)) in
-    let heard : ℕ → ℕ = λ n. counted (hosts p n d) (counted (hosts p n d && x.hears n) (weight v (option_to_list (s n).ejected))) in
+    let heard : ℕ → ℕ =
+    λ n. counted (hosts p n d) (counted (hosts p n d && x.hears n) (weight v (option_to_list (s n).ejected))) in
     let enters : ℕ → ℕ = λ n. weight v (option_to_list (entry p d (s n).packet (word_in p (s n) (fed p d s x n)))) in
-    let lasts : ℕ → ℕ = λ n. total (ports p) (λ o. counted (is_some (neighbour p n o)) (weight v (flit_of ((s n).row o (p.stages - 1))))) in
-    let arrivals : ℕ → ℕ = λ n. total (ports p) (λ port. counted (is_some (neighbour p n port)) (weight v (flit_of (arrival p s n port)))) in
+    let lasts : ℕ → ℕ =
+    λ n. total (ports p) (λ o. counted (is_some (neighbour p n o)) (weight v (flit_of ((s n).row o (p.stages - 1))))) in
+    let arrivals : ℕ → ℕ =
+    λ n. total (ports p) (λ port. counted (is_some (neighbour p n port)) (weight v (flit_of (arrival p s n port)))) in
     let each = total-same m (λ n. after n + (heard n + lasts n)) (λ n. before n + (enters n + arrivals n))
     (λ n inside. tile-moves v p d n t (s n) (fed p d s x n) sound.stages.0 (whole p d n t s x sound inside reached)) in
     let left = total-add m after (λ n. heard n + lasts n) ∙ ap (λ k. total m after + k) (total-add m heard lasts) in
-    let right = total-add m before (λ n. enters n + arrivals n) ∙ ap (λ k. total m before + k) (total-add m enters arrivals) in
+    let right =
+    total-add m before (λ n. enters n + arrivals n) ∙ ap (λ k. total m before + k) (total-add m enters arrivals) in
     let sums = balance (total m after) (total m heard) (total m lasts) (total m before) (total m enters) (total m arrivals) (sym left ∙ each ∙ right)
     (arrivals-last v p s (positive p.dims sound.sides)) in
     ap (λ k. k + weight v (gathered m (delivered_at p d s x))) (weight-gathered v m (λ n. inside_tile p d n (step p d t s x n)))
@@ -189,9 +197,11 @@ delivered-more v p d t s x xs =
     ∙ sym (ap (λ k. weight v (gathered m first) + k) (weight-gathered v m rest))
 
 nothing-delivered : (v : Flit → ℕ) (p : Plan) (d t : ℕ) (s : State) → weight v (delivered p d t s []) ≡ 0
-nothing-delivered v p d t s = weight-gathered v (tiles p) (delivered_to p d t s []) ∙ total-none (tiles p) (λ n. 0) (λ n less. refl)
+nothing-delivered v p d t s =
+    weight-gathered v (tiles p) (delivered_to p d t s []) ∙ total-none (tiles p) (λ n. 0) (λ n less. refl)
 
-pub conserved-from : (v : Flit → ℕ) (p : Plan) (d t : ℕ) (s : State) (xs : List Input) → IsSound p → IsReached p d (pos t) s
+pub conserved-from : (v : Flit → ℕ) (p : Plan) (d t : ℕ) (s : State) (xs : List Input) → IsSound p
+    → IsReached p d (pos t) s
     → weight v (inside p d s) + weight v (entered p d t s xs) ≡ weight v (delivered p d t s xs) + weight v (inside p d (state_from p d t s xs))
 conserved-from v p d t s [] sound reached = let none = nothing-delivered v p d t s in omega (arith, none)
 conserved-from v p d t s (x ∷ xs) sound reached =
@@ -204,7 +214,8 @@ conserved-from v p d t s (x ∷ xs) sound reached =
     (weight v (delivered p d t s (x ∷ xs))) (weight v (gathered (tiles p) (delivered_at p d s x))) (weight v (delivered p d (suc t) next xs))
     (weight v (inside p d next)) (weight v (inside p d (state_from p d (suc t) next xs))) one rest more in_all
   where
-    joined : (now all first later out out_first out_later next last : ℕ) → next + out_first ≡ now + first → next + later ≡ out_later + last → out ≡ out_first + out_later → all ≡ first + later
+    joined : (now all first later out out_first out_later next last : ℕ) → next + out_first ≡ now + first
+        → next + later ≡ out_later + last → out ≡ out_first + out_later → all ≡ first + later
         → now + all ≡ out + last
     joined now all first later out out_first out_later next last a b c e = omega arith
 
@@ -213,13 +224,17 @@ empty-start : (v : Flit → ℕ) (p : Plan) (d : ℕ) → weight v (inside p d (
 empty-start v p d =
     none (tiles p) (λ n. inside_tile p d n (start p n))
     (λ n. (
-    let lists : List Flit = gathered (ports p) (λ port. where_there (is_port p n port) (gathered (in_channels p d port) (λ c. []))) in
-    let links : List Flit = gathered (ports p) (λ o. where_there (is_some (neighbour p n o)) (gathered p.stages (λ i. []))) in
+    let lists : List Flit =
+    gathered (ports p) (λ port. where_there (is_port p n port) (gathered (in_channels p d port) (λ c. []))) in
+    let links : List Flit =
+    gathered (ports p) (λ o. where_there (is_some (neighbour p n o)) (gathered p.stages (λ i. []))) in
     let heard : List Flit = where_there (hosts p n d) [] in
     let three = sum_by-append v (lists ++ links) heard in
     let two = sum_by-append v lists links in
-    let a = none (ports p) (λ port. where_there (is_port p n port) (gathered (in_channels p d port) (λ c. []))) (λ port. there (is_port p n port) (gathered (in_channels p d port) (λ c. [])) (none (in_channels p d port) (λ c. []) (λ c. refl))) in
-    let b = none (ports p) (λ o. where_there (is_some (neighbour p n o)) (gathered p.stages (λ i. []))) (λ o. there (is_some (neighbour p n o)) (gathered p.stages (λ i. [])) (none p.stages (λ i. []) (λ i. refl))) in
+    let a =
+    none (ports p) (λ port. where_there (is_port p n port) (gathered (in_channels p d port) (λ c. []))) (λ port. there (is_port p n port) (gathered (in_channels p d port) (λ c. [])) (none (in_channels p d port) (λ c. []) (λ c. refl))) in
+    let b =
+    none (ports p) (λ o. where_there (is_some (neighbour p n o)) (gathered p.stages (λ i. []))) (λ o. there (is_some (neighbour p n o)) (gathered p.stages (λ i. [])) (none p.stages (λ i. []) (λ i. refl))) in
     let c = there (hosts p n d) [] refl in
     added (weight v (inside_tile p d n (start p n))) (weight v (lists ++ links)) (weight v lists) (weight v links) (weight v heard) three two a b c))
   where

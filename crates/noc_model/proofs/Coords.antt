@@ -46,7 +46,8 @@ within-coords_in (k ∷ ks) n h = let some : 0 < k = h.0 in (omega arith, within
 pub tile_in-coords_in : (ks : List ℕ) (n : ℕ) → AllPositive ks → n < product ks → tile_in ks (coords_in ks n) ≡ n
 tile_in-coords_in [] n h below = omega arith
 tile_in-coords_in (k ∷ ks) n h below =
-    let less : n / k < product ks = (div-lt_iff_lt-mul {k = k} {x = n} {y = product ks} h.0).1 (rw (mul_comm (product ks) k) below) in
+    let less : n / k < product ks =
+    (div-lt_iff_lt-mul {k = k} {x = n} {y = product ks} h.0).1 (rw (mul_comm (product ks) k) below) in
     let ih = tile_in-coords_in ks (n / k) h.1 less in
     rw ih (mod-add-div n k)
 
@@ -58,7 +59,8 @@ within-set (k ∷ ks) (c ∷ cs) zero x h below = (below, h.1)
 within-set (k ∷ ks) (c ∷ cs) (suc i) x h below = (h.0, within-set ks cs i x h.1 below)
 
 -- the sum, where one coordinate changes
-pub sum-set : (cs : List ℕ) (i x : ℕ) → i < length cs → sum_by (λ c. c) (slice_set cs i x) + slice_index cs i ≡ sum_by (λ c. c) cs + x
+pub sum-set : (cs : List ℕ) (i x : ℕ) → i < length cs
+    → sum_by (λ c. c) (slice_set cs i x) + slice_index cs i ≡ sum_by (λ c. c) cs + x
 sum-set cs i x h = sum_by-set (λ c. c) cs i x 0 h
 
 pub length-coords : (ks : List ℕ) (n : ℕ) → length (coords_in ks n) ≡ length ks
@@ -109,7 +111,8 @@ pub one-le-product : (ks : List ℕ) → AllPositive ks → 1 ≤ product ks
 one-le-product [] h = omega arith
 one-le-product (k ∷ ks) h = mul-le 1 1 k (product ks) h.0 (one-le-product ks h.1)
 
-pub product-take_more : (ks : List ℕ) (i : ℕ) → i < length ks → product (take (i + 1) ks) ≡ product (take i ks) * slice_index ks i
+pub product-take_more : (ks : List ℕ) (i : ℕ) → i < length ks
+    → product (take (i + 1) ks) ≡ product (take i ks) * slice_index ks i
 product-take_more [] i h = absurd (omega arith)
 product-take_more (k ∷ ks) zero h = omega arith
 product-take_more (k ∷ ks) (suc i) h =
@@ -119,20 +122,24 @@ product-take_more (k ∷ ks) (suc i) h =
 pub product-take_le : (ks : List ℕ) (i : ℕ) → AllPositive ks → product (take i ks) ≤ product ks
 product-take_le ks zero h = one-le-product ks h
 product-take_le [] (suc i) h = omega arith
-product-take_le (k ∷ ks) (suc i) h = mul-le k (product (take i ks)) k (product ks) (omega arith) (product-take_le ks i h.1)
+product-take_le (k ∷ ks) (suc i) h =
+    mul-le k (product (take i ks)) k (product ks) (omega arith) (product-take_le ks i h.1)
 
 -- a coordinate by one division and one remainder
-pub coords_in-at : (ks : List ℕ) (n i : ℕ) → i < length ks → slice_index (coords_in ks n) i ≡ n / product (take i ks) % slice_index ks i
+pub coords_in-at : (ks : List ℕ) (n i : ℕ) → i < length ks
+    → slice_index (coords_in ks n) i ≡ n / product (take i ks) % slice_index ks i
 coords_in-at [] n i h = absurd (omega arith)
 coords_in-at (k ∷ ks) n zero h = let one : n / 1 ≡ n = omega arith in rw one refl
 coords_in-at (k ∷ ks) n (suc i) h =
-    coords_in-at ks (n / k) i (omega arith) ∙ ap (λ m. m % slice_index ks i) (div-div-eq-div-mul n k (product (take i ks)))
+    coords_in-at ks (n / k) i (omega arith)
+    ∙ ap (λ m. m % slice_index ks i) (div-div-eq-div-mul n k (product (take i ks)))
 
 step-suc : (k s r a m n x y : ℕ) → r + k * m ≡ n → a + x * s ≡ m + y * s → (r + k * a) + x * (k * s) ≡ n + y * (k * s)
 step-suc k s r a m n x y e ih =
     let l : x * (k * s) ≡ k * (x * s) = sym (mul_assoc x k s) ∙ ap (λ z. z * s) (mul_comm x k) ∙ mul_assoc k x s in
     let q : y * (k * s) ≡ k * (y * s) = sym (mul_assoc y k s) ∙ ap (λ z. z * s) (mul_comm y k) ∙ mul_assoc k y s in
-    let up : k * a + k * (x * s) ≡ k * m + k * (y * s) = sym (mul-add k a (x * s)) ∙ ap (λ z. k * z) ih ∙ mul-add k m (y * s) in
+    let up : k * a + k * (x * s) ≡ k * m + k * (y * s) =
+    sym (mul-add k a (x * s)) ∙ ap (λ z. k * z) ih ∙ mul-add k m (y * s) in
     omega arith
 
 -- a change of one coordinate moves by whole strides
@@ -140,12 +147,14 @@ pub tile_in-set : (ks : List ℕ) (n i y : ℕ) → AllPositive ks → n < produ
     → tile_in ks (slice_set (coords_in ks n) i y) + slice_index (coords_in ks n) i * product (take i ks) ≡ n + y * product (take i ks)
 tile_in-set [] n i y h below there = absurd (omega arith)
 tile_in-set (k ∷ ks) n zero y h below there =
-    let less : n / k < product ks = (div-lt_iff_lt-mul {k = k} {x = n} {y = product ks} h.0).1 (rw (mul_comm (product ks) k) below) in
+    let less : n / k < product ks =
+    (div-lt_iff_lt-mul {k = k} {x = n} {y = product ks} h.0).1 (rw (mul_comm (product ks) k) below) in
     let rest : tile_in ks (coords_in ks (n / k)) ≡ n / k = tile_in-coords_in ks (n / k) h.1 less in
     let whole : n % k + k * (n / k) ≡ n = mod-add-div n k in
     rw rest (omega arith)
 tile_in-set (k ∷ ks) n (suc i) y h below there =
-    let less : n / k < product ks = (div-lt_iff_lt-mul {k = k} {x = n} {y = product ks} h.0).1 (rw (mul_comm (product ks) k) below) in
+    let less : n / k < product ks =
+    (div-lt_iff_lt-mul {k = k} {x = n} {y = product ks} h.0).1 (rw (mul_comm (product ks) k) below) in
     step-suc k (product (take i ks)) (n % k) (tile_in ks (slice_set (coords_in ks (n / k)) i y)) (n / k) n (slice_index (coords_in ks (n / k)) i) y
     (mod-add-div n k) (tile_in-set ks (n / k) i y h.1 less (omega arith))
 

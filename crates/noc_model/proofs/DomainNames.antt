@@ -31,11 +31,13 @@ differ a b n = go (bytes_eq a b) refl
     go false e = e
 
 -- the answer of a search for the name
-pub domain_named-is : (p : Plan) (name : List ℕ) (r : Option ℕ) → IsSound p → IfSome r (λ d. (d < length p.domains) × (name_of p d ≡ name))
+pub domain_named-is : (p : Plan) (name : List ℕ) (r : Option ℕ) → IsSound p
+    → IfSome r (λ d. (d < length p.domains) × (name_of p d ≡ name))
     → IfNone r ((d : ℕ) → d < length p.domains → name_of p d ≢ name) → r ≡ domain_named p name
 domain_named-is p name (Some d) sound found absent =
     let test : DomainPart → Bool = λ x. bytes_eq x.name name in
-    let here : bytes_eq (get_or p.domains d no_domain).name name ≡ true = same _ _ (sym (named p d found.0) ∙ found.1) in
+    let here : bytes_eq (get_or p.domains d no_domain).name name ≡ true =
+    same _ _ (sym (named p d found.0) ∙ found.1) in
     let first : position_or_len test p.domains ≡ d = position_or_len_is test p.domains d no_domain (omega arith)
     (λ k below. differ _ _ (λ e. sound.names_apart k d no_domain below found.0 (e ∙ sym found.1 ∙ named p d found.0)))
     (λ within. here) in

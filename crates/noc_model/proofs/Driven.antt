@@ -29,25 +29,31 @@ pub events-last : (p : Plan) (d : ℕ) (v : Driver) (k t u : ℕ) (s : State) (s
     ≡ driven_events p d v k t s states ++ cycle_events p d u (driven_state p d v k t s states) (driven p d v (driver_states p d v k t s states) u)
 events-last p d v zero t u s states is =
     let same : t ≡ u = omega arith in
-    append-nil (cycle_events p d t s (driven p d v states t)) ∙ ap (λ i. cycle_events p d i s (driven p d v states i)) same
+    append-nil (cycle_events p d t s (driven p d v states t))
+    ∙ ap (λ i. cycle_events p d i s (driven p d v states i)) same
 events-last p d v (suc k) t u s states is =
     let next : State = step p d (pos t) s (driven p d v states t) in
     let after : ℕ → List ℕ = next_states p d v states t s in
     let first = cycle_events p d t s (driven p d v states t) in
-    let last = cycle_events p d u (driven_state p d v k (suc t) next after) (driven p d v (driver_states p d v k (suc t) next after) u) in
-    ap (λ es. first ++ es) (events-last p d v k (suc t) u next after (omega arith)) ∙ sym (append_assoc first (driven_events p d v k (suc t) next after) last)
+    let last =
+    cycle_events p d u (driven_state p d v k (suc t) next after) (driven p d v (driver_states p d v k (suc t) next after) u) in
+    ap (λ es. first ++ es) (events-last p d v k (suc t) u next after (omega arith))
+    ∙ sym (append_assoc first (driven_events p d v k (suc t) next after) last)
 
 -- ---- the run is that of the inputs which the driver makes
 
 -- one input for each cycle
-pub inputs-length : (p : Plan) (d : ℕ) (v : Driver) (k t : ℕ) (s : State) (states : ℕ → List ℕ) → length (driven_inputs p d v k t s states) ≡ k
+pub inputs-length : (p : Plan) (d : ℕ) (v : Driver) (k t : ℕ) (s : State) (states : ℕ → List ℕ)
+    → length (driven_inputs p d v k t s states) ≡ k
 inputs-length p d v zero t s states = refl
-inputs-length p d v (suc k) t s states = omega (arith, inputs-length p d v k (suc t) (step p d (pos t) s (driven p d v states t)) (next_states p d v states t s))
+inputs-length p d v (suc k) t s states =
+    omega (arith, inputs-length p d v k (suc t) (step p d (pos t) s (driven p d v states t)) (next_states p d v states t s))
 
 pub driven-state_from : (p : Plan) (d : ℕ) (v : Driver) (k t : ℕ) (s : State) (states : ℕ → List ℕ)
     → driven_state p d v k t s states ≡ state_from p d t s (driven_inputs p d v k t s states)
 driven-state_from p d v zero t s states = refl
-driven-state_from p d v (suc k) t s states = driven-state_from p d v k (suc t) (step p d (pos t) s (driven p d v states t)) (next_states p d v states t s)
+driven-state_from p d v (suc k) t s states =
+    driven-state_from p d v k (suc t) (step p d (pos t) s (driven p d v states t)) (next_states p d v states t s)
 
 pub driven-events_from : (p : Plan) (d : ℕ) (v : Driver) (k t : ℕ) (s : State) (states : ℕ → List ℕ)
     → driven_events p d v k t s states ≡ events_from p d t s (driven_inputs p d v k t s states)

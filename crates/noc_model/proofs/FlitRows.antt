@@ -56,5 +56,6 @@ packets_pass_whole = refl
 two_heads_are_no_packets : AreWholePackets (record word { tail = false } ∷ word ∷ []) → ⊥
 two_heads_are_no_packets h = let second = h.packets.1.0 in cc second
 
-two_tiles_are_no_packet : AreWholePackets (record word { tail = false } ∷ record word { head = false; dest = 0 } ∷ []) → ⊥
+two_tiles_are_no_packet : AreWholePackets (record word { tail = false } ∷ record word { head = false; dest = 0 } ∷ [])
+    → ⊥
 two_tiles_are_no_packet h = let second = h.packets.1.0 in cc second

@@ -59,33 +59,40 @@ is_low : (a b : ℕ) → a < b → nat_lt a b ≡ true
 is_low a b e = grind (arith, nat_tests)
 
 -- what the map gives holds the channel
-pub holder_of-holds : (p : Plan) (d : ℕ) (s : Tile) (o w k : ℕ) → holder_of p d s o w ≡ Some k → IsHolder p d s o w (k / link_channels p d) (k % link_channels p d)
+pub holder_of-holds : (p : Plan) (d : ℕ) (s : Tile) (o w k : ℕ) → holder_of p d s o w ≡ Some k
+    → IsHolder p d s o w (k / link_channels p d) (k % link_channels p d)
 holder_of-holds p d s o w k e =
     let member = least-member (ports p * link_channels p d) (is_holding p d s o w) k e in
-    let both = parts (nat_lt (k % link_channels p d) (in_channels p d (k / link_channels p d))) (goes_on (s.stage (k / link_channels p d) (k % link_channels p d)) o w) member.1 in
+    let both =
+    parts (nat_lt (k % link_channels p d) (in_channels p d (k / link_channels p d))) (goes_on (s.stage (k / link_channels p d) (k % link_channels p d)) o w) member.1 in
     record {
       inside = port-below p d k member.0;
       below = low (k % link_channels p d) (in_channels p d (k / link_channels p d)) both.0;
       active = goes_on-active (s.stage (k / link_channels p d) (k % link_channels p d)) o w both.1;
     }
 
-holding-at : (p : Plan) (d : ℕ) (s : Tile) (o w port c k : ℕ) → IsHolder p d s o w port c → k / link_channels p d ≡ port → k % link_channels p d ≡ c → is_holding p d s o w k ≡ true
+holding-at : (p : Plan) (d : ℕ) (s : Tile) (o w port c k : ℕ) → IsHolder p d s o w port c → k / link_channels p d ≡ port
+    → k % link_channels p d ≡ c → is_holding p d s o w k ≡ true
 holding-at p d s o w port c k is at_port at_c =
     rw (at_port, at_c) (joined _ _ (is_low c (in_channels p d port) is.below) (ap (λ st. goes_on st o w) is.active ∙ active-goes_on o w))
 
 -- a holder is what the map gives
-pub holder_of-is : (p : Plan) (d n : ℕ) (s : Tile) (o w port c : ℕ) → IsHeldTile p d n s → IsHolder p d s o w port c → holder_of p d s o w ≡ Some (port * link_channels p d + c)
+pub holder_of-is : (p : Plan) (d n : ℕ) (s : Tile) (o w port c : ℕ) → IsHeldTile p d n s → IsHolder p d s o w port c
+    → holder_of p d s o w ≡ Some (port * link_channels p d + c)
 holder_of-is p d n s o w port c right is =
     let within : c < link_channels p d = input-within p d port c is.below in
     let place : ℕ = port * link_channels p d + c in
     let inside = place-below p d port c is.inside within in
     let found = least-some (ports p * link_channels p d) (is_holding p d s o w) place inside
     (holding-at p d s o w port c place is (port-place p d port c within) (channel-place p d port c within)) in
-    let same = right.one o w (found.0 / link_channels p d) (found.0 % link_channels p d) port c (holder_of-holds p d s o w found.0 found.1) is in
-    found.1 ∙ ap Some (sym (place-input p d found.0) ∙ ap (λ k. k * link_channels p d + found.0 % link_channels p d) same.0 ∙ ap (λ k. port * link_channels p d + k) same.1)
+    let same =
+    right.one o w (found.0 / link_channels p d) (found.0 % link_channels p d) port c (holder_of-holds p d s o w found.0 found.1) is in
+    found.1
+    ∙ ap Some (sym (place-input p d found.0) ∙ ap (λ k. k * link_channels p d + found.0 % link_channels p d) same.0 ∙ ap (λ k. port * link_channels p d + k) same.1)
 
 -- a channel is held exactly where the map gives a place
-pub held-is_some : (p : Plan) (d n : ℕ) (s : Tile) (o w : ℕ) → IsHeldTile p d n s → s.held o w ≡ is_some (holder_of p d s o w)
+pub held-is_some : (p : Plan) (d n : ℕ) (s : Tile) (o w : ℕ) → IsHeldTile p d n s
+    → s.held o w ≡ is_some (holder_of p d s o w)
 held-is_some p d n s o w right = go (holder_of p d s o w) refl
   where
     none : (b : Bool) → s.held o w ≡ b → holder_of p d s o w ≡ None → b ≡ false

@@ -35,7 +35,8 @@ is_place-is : (k : Option ℕ) (place : ℕ) → is_place k place ≡ true → k
 is_place-is None place e = absurd (cc e)
 is_place-is (Some k) place e = let same : k ≡ place = grind (arith, nat_tests, e) in ap Some same
 
-pub came-from : (p : Plan) (d n : ℕ) (t : ℤ) (s : Tile) (i : TileIn) (port c : ℕ) (st : Stage) (o w : ℕ) → next_stage p d n t s i port c st ≡ Active o w
+pub came-from : (p : Plan) (d n : ℕ) (t : ℤ) (s : Tile) (i : TileIn) (port c : ℕ) (st : Stage) (o w : ℕ)
+    → next_stage p d n t s i port c st ≡ Active o w
     → Stays p d n t s i port c st o w ⊎ Wins p d n s port c st o w
 came-from p d n t s i port c Idle o w e = absurd (none (s.queue port c) e)
   where
@@ -44,7 +45,8 @@ came-from p d n t s i port c Idle o w e = absurd (none (s.queue port c) e)
     none (f ∷ fs) h = cc h
 came-from p d n t s i port c (Routed to) o w e = go (is_place (winner p d n s to) (port * link_channels p d + c)) refl (taken_channel p d n s to) refl e
   where
-    go : (b : Bool) → is_place (winner p d n s to) (port * link_channels p d + c) ≡ b → (x : Option ℕ) → taken_channel p d n s to ≡ x → activated b to x ≡ Active o w
+    go : (b : Bool) → is_place (winner p d n s to) (port * link_channels p d + c) ≡ b → (x : Option ℕ)
+        → taken_channel p d n s to ≡ x → activated b to x ≡ Active o w
         → Stays p d n t s i port c (Routed to) o w ⊎ Wins p d n s port c (Routed to) o w
     go false is x took h = absurd (cc h)
     go true is None took h = absurd (cc h)
@@ -58,7 +60,8 @@ came-from p d n t s i port c (Routed to) o w e = go (is_place (winner p d n s to
         })
 came-from p d n t s i port c (Active to v) o w e = go (leaves p d n t s i port c && is_tail (front (s.queue port c))) refl e
   where
-    go : (b : Bool) → (leaves p d n t s i port c && is_tail (front (s.queue port c))) ≡ b → (if b then Idle else Active to v) ≡ Active o w
+    go : (b : Bool) → (leaves p d n t s i port c && is_tail (front (s.queue port c))) ≡ b
+        → (if b then Idle else Active to v) ≡ Active o w
         → Stays p d n t s i port c (Active to v) o w ⊎ Wins p d n s port c (Active to v) o w
     go true is h = absurd (cc h)
     go false is h = inl (record { was = h; no_tail = is })
@@ -69,10 +72,13 @@ came-from p d n t s i port c (Active to v) o w e = go (leaves p d n t s i port c
 pub taken-free : (p : Plan) (d n : ℕ) (s : Tile) (o w : ℕ) → taken_channel p d n s o ≡ Some w → s.held o w ≡ false
 unfolding taken_channel
 taken-free p d n s o w e =
-    let got = then-is (λ k. free_for p d n s o (k / link_channels p d) (k % link_channels p d)) (winner p d n s o) w e in
+    let got =
+    then-is (λ k. free_for p d n s o (k / link_channels p d) (k % link_channels p d)) (winner p d n s o) w e in
     let class : ℕ = class_of p d n (got.0 / link_channels p d) (got.0 % link_channels p d) o in
-    let found = option-map-is (λ j. class * channels p d + j) (least (at_local o 1 (channels p d)) (λ j. not (s.held o (class * channels p d + j)))) w got.2 in
-    let member = least-member (at_local o 1 (channels p d)) (λ j. not (s.held o (class * channels p d + j))) found.0 found.1 in
+    let found =
+    option-map-is (λ j. class * channels p d + j) (least (at_local o 1 (channels p d)) (λ j. not (s.held o (class * channels p d + j)))) w got.2 in
+    let member =
+    least-member (at_local o 1 (channels p d)) (λ j. not (s.held o (class * channels p d + j))) found.0 found.1 in
     subst (λ v. s.held o v ≡ false) found.2 (free (s.held o (class * channels p d + found.0)) member.1)
   where
     free : (b : Bool) → not b ≡ true → b ≡ false
@@ -123,11 +129,13 @@ record Frees (p : Plan) (d n : ℕ) (t : ℤ) (s : Tile) (i : TileIn) (o w : ℕ
 active-is : (st : Stage) (a b o w : ℕ) → st ≡ Active a b → a ≡ o → b ≡ w → st ≡ Active o w
 active-is st a b o w e f g = e ∙ ap (λ k. Active k b) f ∙ ap (Active o) g
 
-pub granted-leaves : (p : Plan) (d n : ℕ) (t : ℤ) (s : Tile) (i : TileIn) (port : ℕ) (g : Grant) → grant p d n t s i port ≡ Some g → leaves p d n t s i port g.channel ≡ true
+pub granted-leaves : (p : Plan) (d n : ℕ) (t : ℤ) (s : Tile) (i : TileIn) (port : ℕ) (g : Grant)
+    → grant p d n t s i port ≡ Some g → leaves p d n t s i port g.channel ≡ true
 unfolding leaves
 granted-leaves p d n t s i port g e = rw e (let same : g.channel ≡ g.channel = refl in grind (arith, nat_tests))
 
-tail-frees : (p : Plan) (d n : ℕ) (t : ℤ) (s : Tile) (i : TileIn) (o w : ℕ) → is_tail_on (sent p d n t s i o) w ≡ true → Frees p d n t s i o w
+tail-frees : (p : Plan) (d n : ℕ) (t : ℤ) (s : Tile) (i : TileIn) (o w : ℕ) → is_tail_on (sent p d n t s i o) w ≡ true
+    → Frees p d n t s i o w
 tail-frees p d n t s i o w e = go (sent p d n t s i o) refl e
   where
     go : (x : Option LinkFlit) → sent p d n t s i o ≡ x → is_tail_on x w ≡ true → Frees p d n t s i o w
@@ -154,15 +162,18 @@ granted_to-port (Some j) port h g is = go (j == port) refl is
     go true same is' = let at : j ≡ port = grind (arith, nat_tests, same) in ap Some at
     go false other is' = absurd (cc is')
 
-pub granted-chosen : (p : Plan) (d n : ℕ) (t : ℤ) (s : Tile) (i : TileIn) (port : ℕ) (g : Grant) → grant p d n t s i port ≡ Some g → chosen p d n t s i g.out ≡ Some port
+pub granted-chosen : (p : Plan) (d n : ℕ) (t : ℤ) (s : Tile) (i : TileIn) (port : ℕ) (g : Grant)
+    → grant p d n t s i port ≡ Some g → chosen p d n t s i g.out ≡ Some port
 unfolding grant
 granted-chosen p d n t s i port g e =
     let got = then-is (λ h. granted_to (chosen p d n t s i h.out) port h) (asked p d n t s i port) g e in
     let same : got.0 ≡ g = granted_to-is (chosen p d n t s i got.0.out) port got.0 g got.2 in
-    ap (λ (x : Grant). chosen p d n t s i x.out) (sym same) ∙ granted_to-port (chosen p d n t s i got.0.out) port got.0 g got.2
+    ap (λ (x : Grant). chosen p d n t s i x.out) (sym same)
+    ∙ granted_to-port (chosen p d n t s i got.0.out) port got.0 g got.2
 
 -- what is granted is sent
-pub granted-sent : (p : Plan) (d n : ℕ) (t : ℤ) (s : Tile) (i : TileIn) (port : ℕ) (g : Grant) → grant p d n t s i port ≡ Some g
+pub granted-sent : (p : Plan) (d n : ℕ) (t : ℤ) (s : Tile) (i : TileIn) (port : ℕ) (g : Grant)
+    → grant p d n t s i port ≡ Some g
     → sent p d n t s i g.out ≡ with_channel g.to (front (s.queue port g.channel))
 unfolding sent
 granted-sent p d n t s i port g e = rw (granted-chosen p d n t s i port g e, e) refl
@@ -181,7 +192,8 @@ tail-sent p d n t s i port c o w active e = go (grant p d n t s i port) refl e
     parts true b h = (refl, h)
     parts false b h = absurd (cc h)
 
-    go : (x : Option Grant) → grant p d n t s i port ≡ x → (is_channel x c && is_tail (front (s.queue port c))) ≡ true → is_tail_on (sent p d n t s i o) w ≡ true
+    go : (x : Option Grant) → grant p d n t s i port ≡ x → (is_channel x c && is_tail (front (s.queue port c))) ≡ true
+        → is_tail_on (sent p d n t s i o) w ≡ true
     go None is h = absurd (cc h)
     go (Some g) is h =
         let ready = grant-ready p d n t s i port g is in
@@ -197,7 +209,8 @@ tail-sent p d n t s i port c o w active e = go (grant p d n t s i port) refl e
 -- ---- the step
 
 -- a held channel that isn't freed stays with its holder
-pub holder-stays : (p : Plan) (d n : ℕ) (t : ℤ) (s : Tile) (i : TileIn) (o w port c : ℕ) → IsHolder p d s o w port c → is_tail_on (sent p d n t s i o) w ≡ false
+pub holder-stays : (p : Plan) (d n : ℕ) (t : ℤ) (s : Tile) (i : TileIn) (o w port c : ℕ) → IsHolder p d s o w port c
+    → is_tail_on (sent p d n t s i o) w ≡ false
     → IsHolder p d (tile_step p d n t s i) o w port c
 unfolding tile_step
 holder-stays p d n t s i o w port c is kept = record {
@@ -206,17 +219,21 @@ holder-stays p d n t s i o w port c is kept = record {
   active = ap (next_stage p d n t s i port c) is.active ∙ go (leaves p d n t s i port c && is_tail (front (s.queue port c))) refl;
 }
   where
-    go : (b : Bool) → (leaves p d n t s i port c && is_tail (front (s.queue port c))) ≡ b → (if b then Idle else Active o w) ≡ Active o w
+    go : (b : Bool) → (leaves p d n t s i port c && is_tail (front (s.queue port c))) ≡ b
+        → (if b then Idle else Active o w) ≡ Active o w
     go false e = refl
     go true e = absurd (let frees = tail-sent p d n t s i port c o w is.active e in cc (frees, kept))
 
 -- the winner holds the channel that it is given
-winner-holds : (p : Plan) (d n : ℕ) (t : ℤ) (s : Tile) (i : TileIn) (o w : ℕ) → taken_channel p d n s o ≡ Some w → HasHolder p d (tile_step p d n t s i) o w
+winner-holds : (p : Plan) (d n : ℕ) (t : ℤ) (s : Tile) (i : TileIn) (o w : ℕ) → taken_channel p d n s o ≡ Some w
+    → HasHolder p d (tile_step p d n t s i) o w
 unfolding tile_step taken_channel
 winner-holds p d n t s i o w e =
-    let got = then-is (λ k. free_for p d n s o (k / link_channels p d) (k % link_channels p d)) (winner p d n s o) w e in
+    let got =
+    then-is (λ k. free_for p d n s o (k / link_channels p d) (k % link_channels p d)) (winner p d n s o) w e in
     let waits = winner-waits p d n s o got.0 got.1 in
-    let place : got.0 / link_channels p d * link_channels p d + got.0 % link_channels p d ≡ got.0 = place-input p d got.0 in
+    let place : got.0 / link_channels p d * link_channels p d + got.0 % link_channels p d ≡ got.0 =
+    place-input p d got.0 in
     record {
       port = got.0 / link_channels p d;
       channel = got.0 % link_channels p d;
@@ -240,9 +257,11 @@ pub record WasOrWins (p : Plan) (d n : ℕ) (t : ℤ) (s : Tile) (i : TileIn) (p
   pub below : c < in_channels p d port
   pub from : Stays p d n t s i port c (s.stage port c) o w ⊎ Wins p d n s port c (s.stage port c) o w
 
-pub holder-from : (p : Plan) (d n : ℕ) (t : ℤ) (s : Tile) (i : TileIn) (o w port c : ℕ) → IsHolder p d (tile_step p d n t s i) o w port c → WasOrWins p d n t s i port c o w
+pub holder-from : (p : Plan) (d n : ℕ) (t : ℤ) (s : Tile) (i : TileIn) (o w port c : ℕ)
+    → IsHolder p d (tile_step p d n t s i) o w port c → WasOrWins p d n t s i port c o w
 unfolding tile_step
-holder-from p d n t s i o w port c is = record { inside = is.inside; below = is.below; from = came-from p d n t s i port c (s.stage port c) o w is.active }
+holder-from p d n t s i o w port c is =
+    record { inside = is.inside; below = is.below; from = came-from p d n t s i port c (s.stage port c) o w is.active }
 
 or-left : (a b : Bool) → a ≡ true → (a || b) ≡ true
 or-left true b e = refl
@@ -267,8 +286,10 @@ both true true e f = absurd (cc f)
 both false b e f = absurd (cc e)
 
 -- a holder whose tail doesn't leave isn't freed
-not-freed : (p : Plan) (d n : ℕ) (t : ℤ) (s : Tile) (i : TileIn) (o w port c : ℕ) → IsHeldTile p d n s → IsHolder p d s o w port c
-    → (leaves p d n t s i port c && is_tail (front (s.queue port c))) ≡ false → is_tail_on (sent p d n t s i o) w ≡ false
+not-freed : (p : Plan) (d n : ℕ) (t : ℤ) (s : Tile) (i : TileIn) (o w port c : ℕ) → IsHeldTile p d n s
+    → IsHolder p d s o w port c
+    → (leaves p d n t s i port c && is_tail (front (s.queue port c))) ≡ false
+    → is_tail_on (sent p d n t s i o) w ≡ false
 not-freed p d n t s i o w port c right is no_tail = go (is_tail_on (sent p d n t s i o) w) refl
   where
     go : (b : Bool) → is_tail_on (sent p d n t s i o) w ≡ b → is_tail_on (sent p d n t s i o) w ≡ false
@@ -278,10 +299,12 @@ not-freed p d n t s i o w port c right is no_tail = go (is_tail_on (sent p d n t
         let same = right.one o w frees.port frees.channel port c frees.is_holder is in
         absurd (let left = frees.tail_leaves in cc (left, no_tail, same.0, same.1))
 
-pub old-holder : (p : Plan) (d : ℕ) (s : Tile) (o w port c : ℕ) → port < ports p → c < in_channels p d port → s.stage port c ≡ Active o w → IsHolder p d s o w port c
+pub old-holder : (p : Plan) (d : ℕ) (s : Tile) (o w port c : ℕ) → port < ports p → c < in_channels p d port
+    → s.stage port c ≡ Active o w → IsHolder p d s o w port c
 old-holder p d s o w port c inside below active = record { inside = inside; below = below; active = active }
 
-pub held-step : (p : Plan) (d n : ℕ) (t : ℤ) (s : Tile) (i : TileIn) → IsHeldTile p d n s → ((port c : ℕ) → port ≢ 0 → neighbour p n port ≡ None → s.queue port c ≡ [])
+pub held-step : (p : Plan) (d n : ℕ) (t : ℤ) (s : Tile) (i : TileIn) → IsHeldTile p d n s
+    → ((port c : ℕ) → port ≢ 0 → neighbour p n port ≡ None → s.queue port c ≡ [])
     → IsHeldTile p d n (tile_step p d n t s i)
 unfolding tile_step
 held-step p d n t s i right empty = record {
@@ -294,7 +317,8 @@ held-step p d n t s i right empty = record {
     same : (k : ℕ) → is_place (Some k) k ≡ true
     same k = let e : k ≡ k = refl in grind (arith, nat_tests)
 
-    held-after : (o w port c : ℕ) → WasOrWins p d n t s i port c o w → ((s.held o w && not (is_tail_on (sent p d n t s i o) w)) || is_place (taken_channel p d n s o) w) ≡ true
+    held-after : (o w port c : ℕ) → WasOrWins p d n t s i port c o w
+        → ((s.held o w && not (is_tail_on (sent p d n t s i o) w)) || is_place (taken_channel p d n s o) w) ≡ true
     held-after o w port c is = go is.from
       where
         go : Stays p d n t s i port c (s.stage port c) o w ⊎ Wins p d n s port c (s.stage port c) o w
@@ -302,27 +326,34 @@ held-step p d n t s i right empty = record {
         go (inl stays) =
             let old = old-holder p d s o w port c is.inside is.below stays.was in
             or-left _ _ (both (s.held o w) (is_tail_on (sent p d n t s i o) w) (right.held o w port c old) (not-freed p d n t s i o w port c right old stays.no_tail))
-        go (inr wins) = or-right (s.held o w && not (is_tail_on (sent p d n t s i o) w)) (is_place (taken_channel p d n s o) w) (ap (λ k. is_place k w) wins.takes ∙ same w)
+        go (inr wins) =
+            or-right (s.held o w && not (is_tail_on (sent p d n t s i o) w)) (is_place (taken_channel p d n s o) w) (ap (λ k. is_place k w) wins.takes ∙ same w)
 
-    one-after : (o w port c port' c' : ℕ) → WasOrWins p d n t s i port c o w → WasOrWins p d n t s i port' c' o w → (port ≡ port') × (c ≡ c')
+    one-after : (o w port c port' c' : ℕ) → WasOrWins p d n t s i port c o w → WasOrWins p d n t s i port' c' o w
+        → (port ≡ port') × (c ≡ c')
     one-after o w port c port' c' is is' = go is.from is'.from
       where
-        taken-held : (q e : ℕ) → q < ports p → e < in_channels p d q → s.stage q e ≡ Active o w → taken_channel p d n s o ≡ Some w → ⊥
+        taken-held : (q e : ℕ) → q < ports p → e < in_channels p d q → s.stage q e ≡ Active o w
+            → taken_channel p d n s o ≡ Some w → ⊥
         taken-held q e inside below was takes =
             let free = taken-free p d n s o w takes in
             let used = right.held o w q e (old-holder p d s o w q e inside below was) in
             cc (free, used)
 
         go : Stays p d n t s i port c (s.stage port c) o w ⊎ Wins p d n s port c (s.stage port c) o w
-            → Stays p d n t s i port' c' (s.stage port' c') o w ⊎ Wins p d n s port' c' (s.stage port' c') o w → (port ≡ port') × (c ≡ c')
-        go (inl a) (inl b) = right.one o w port c port' c' (old-holder p d s o w port c is.inside is.below a.was) (old-holder p d s o w port' c' is'.inside is'.below b.was)
+            → Stays p d n t s i port' c' (s.stage port' c') o w ⊎ Wins p d n s port' c' (s.stage port' c') o w
+            → (port ≡ port') × (c ≡ c')
+        go (inl a) (inl b) =
+            right.one o w port c port' c' (old-holder p d s o w port c is.inside is.below a.was) (old-holder p d s o w port' c' is'.inside is'.below b.was)
         go (inl a) (inr b) = absurd (taken-held port c is.inside is.below a.was b.takes)
         go (inr a) (inl b) = absurd (taken-held port' c' is'.inside is'.below b.was a.takes)
         go (inr a) (inr b) =
-            let e : Some (port * link_channels p d + c) ≡ Some (port' * link_channels p d + c') = sym a.place ∙ b.place in
+            let e : Some (port * link_channels p d + c) ≡ Some (port' * link_channels p d + c') =
+            sym a.place ∙ b.place in
             place-one p d port c port' c' (input-within p d port c is.below) (input-within p d port' c' is'.below) (cc (e))
 
-    has-after : (o w : ℕ) → ((s.held o w && not (is_tail_on (sent p d n t s i o) w)) ≡ true) ⊎ (is_place (taken_channel p d n s o) w ≡ true)
+    has-after : (o w : ℕ)
+        → ((s.held o w && not (is_tail_on (sent p d n t s i o) w)) ≡ true) ⊎ (is_place (taken_channel p d n s o) w ≡ true)
         → HasHolder p d (tile_step p d n t s i) o w
     has-after o w (inl e) =
         let kept = both-is (s.held o w) (is_tail_on (sent p d n t s i o) w) e in

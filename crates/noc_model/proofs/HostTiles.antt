@@ -49,7 +49,8 @@ kept (suc n) a b f q (x ∷ xs) count is r same =
     go (eqb x a) refl (λ ys. kept n (suc a) b (λ k. f (suc k)) q ys (omega arith) (λ k. omega (arith, is (suc k))))
   where
     Rest : Type 0
-    Rest = (ys : List ℕ) → Rises (suc a) b ys → ((k : ℕ) → suc a ≤ k → q k ≡ among k ys) → filter q (tabulate n (λ k. f (suc k))) ≡ ys
+    Rest =
+        (ys : List ℕ) → Rises (suc a) b ys → ((k : ℕ) → suc a ≤ k → q k ≡ among k ys) → filter q (tabulate n (λ k. f (suc k))) ≡ ys
 
     first : f 0 ≡ a
     first = omega (arith, is 0)
@@ -68,7 +69,8 @@ kept (suc n) a b f q (x ∷ xs) count is r same =
     go false e rest =
         let past : suc a ≤ x = grind (arith, nat_tests) in
         let high : Rises (suc a) b (x ∷ xs) = (past, r.1, r.2) in
-        let here : q (f 0) ≡ false = ap q first ∙ same a (omega arith) ∙ not_below a (suc a) b (x ∷ xs) (omega arith) high in
+        let here : q (f 0) ≡ false =
+        ap q first ∙ same a (omega arith) ∙ not_below a (suc a) b (x ∷ xs) (omega arith) high in
         rw here (rest (x ∷ xs) high (λ k more. same k (omega arith)))
 
 and-true : (b : Bool) → (b && true) ≡ b
@@ -86,11 +88,13 @@ hosted-among d k (h ∷ hs) = go (eqb h.domain d) refl (hosted-among d k hs)
   where
     go : (b : Bool) → eqb h.domain d ≡ b → list_any (is_host k d) hs ≡ among k (host_tiles d hs)
         → list_any (is_host k d) (h ∷ hs) ≡ among k (host_tiles d (h ∷ hs))
-    go true e rest = rw e (ap (λ b. b || list_any (is_host k d) hs) (and-true (eqb h.tile k)) ∙ ap (λ b. eqb h.tile k || b) rest)
+    go true e rest =
+        rw e (ap (λ b. b || list_any (is_host k d) hs) (and-true (eqb h.tile k)) ∙ ap (λ b. eqb h.tile k || b) rest)
     go false e rest = rw e (ap (λ b. b || list_any (is_host k d) hs) (and-false (eqb h.tile k)) ∙ rest)
 
 -- the tiles rise as the hosts do
-rises : (d a b : ℕ) (hs : List Host) → All (λ (h : Host). h.tile < b) hs → AllPairs IsBefore hs → All (λ (h : Host). h.domain ≡ d → a ≤ h.tile) hs
+rises : (d a b : ℕ) (hs : List Host) → All (λ (h : Host). h.tile < b) hs → AllPairs IsBefore hs
+    → All (λ (h : Host). h.domain ≡ d → a ≤ h.tile) hs
     → Rises a b (host_tiles d hs)
 rises d a b [] below ordered low = tt
 rises d a b (h ∷ hs) below ordered low =
@@ -124,7 +128,8 @@ hosts_of-tiles p d sound =
     (λ k more. hosted-among d k p.hosts)
 
 -- an earlier attachment comes before a later one
-pub host-before : (p : Plan) (i j : ℕ) (g h : Host) → IsSound p → slice_get p.hosts i ≡ Some g → slice_get p.hosts j ≡ Some h → i < j → IsBefore g h
+pub host-before : (p : Plan) (i j : ℕ) (g h : Host) → IsSound p → slice_get p.hosts i ≡ Some g
+    → slice_get p.hosts j ≡ Some h → i < j → IsBefore g h
 host-before p i j g h sound e f less =
     let within = slice_get_within p.hosts j h f in
     let a : get_or p.hosts i g ≡ g = get_or_from_slice_get p.hosts i g g e in
@@ -136,7 +141,8 @@ not-before g h tile domain (inl l) = omega arith
 not-before g h tile domain (inr r) = let l = r.1 in omega arith
 
 -- two attachments of one tile and domain are one
-pub host-unique : (p : Plan) (i j : ℕ) (g h : Host) → IsSound p → slice_get p.hosts i ≡ Some g → slice_get p.hosts j ≡ Some h
+pub host-unique : (p : Plan) (i j : ℕ) (g h : Host) → IsSound p → slice_get p.hosts i ≡ Some g
+    → slice_get p.hosts j ≡ Some h
     → g.tile ≡ h.tile → g.domain ≡ h.domain → i ≡ j
 host-unique p i j g h sound e f tile domain = go order
   where
@@ -176,20 +182,26 @@ not-attached p n d away = go (attach_of p n d) refl
   where
     go : (o : Option ℕ) → attach_of p n d ≡ o → o ≡ None
     go None e = refl
-    go (Some j) e = absurd (let some = list_any-position (is_host n d) p.hosts j (record { tile = n; domain = d }) e in cc)
+    go (Some j) e =
+        absurd (let some = list_any-position (is_host n d) p.hosts j (record { tile = n; domain = d }) e in cc)
 
 -- an attachment has its number
-pub number-is : (p : Plan) (j : ℕ) (h : Host) → IsSound p → slice_get p.hosts j ≡ Some h → attach_of p h.tile h.domain ≡ Some j
+pub number-is : (p : Plan) (j : ℕ) (h : Host) → IsSound p → slice_get p.hosts j ≡ Some h
+    → attach_of p h.tile h.domain ≡ Some j
 number-is p j h sound e =
     let has = attached p h.tile h.domain (host-hosted p j h e) in
-    has.is ∙ ap Some (host-unique p has.number j (record { tile = h.tile; domain = h.domain }) h sound has.at e refl refl)
+    has.is
+    ∙ ap Some (host-unique p has.number j (record { tile = h.tile; domain = h.domain }) h sound has.at e refl refl)
 
 -- the tile and the domain of an attachment are of the plan
-pub host-within : (p : Plan) (j : ℕ) (h : Host) → IsSound p → slice_get p.hosts j ≡ Some h → (h.tile < tiles p) × (h.domain < length p.domains)
+pub host-within : (p : Plan) (j : ℕ) (h : Host) → IsSound p → slice_get p.hosts j ≡ Some h
+    → (h.tile < tiles p) × (h.domain < length p.domains)
 host-within p j h sound e =
     subst (λ (x : Host). (x.tile < tiles p) × (x.domain < length p.domains)) (get_or_from_slice_get p.hosts j h h e)
     (sound.hosts j h (slice_get_within p.hosts j h e))
 
 -- a tile that hosts a domain is there
 pub hosts-inside : (p : Plan) (n d : ℕ) → IsSound p → hosts p n d ≡ true → n < tiles p
-hosts-inside p n d sound here = let has = attached p n d here in (host-within p has.number (record { tile = n; domain = d }) sound has.at).0
+hosts-inside p n d sound here =
+    let has = attached p n d here in
+    (host-within p has.number (record { tile = n; domain = d }) sound has.at).0

@@ -28,7 +28,8 @@ on_row-empty : (k w : ℕ) → on_row k nothing w ≡ 0
 on_row-empty zero w = refl
 on_row-empty (suc k) w = omega (arith, on_row-empty k w)
 
-pub channel_sum-law : (p : Plan) (d n port m w : ℕ) (inputs : List Input) → IsSound p → n < tiles p → neighbour p n port ≡ Some m
+pub channel_sum-law : (p : Plan) (d n port m w : ℕ) (inputs : List Input) → IsSound p → n < tiles p
+    → neighbour p n port ≡ Some m
     → channel_sum p (run p d inputs) n port m w ≡ p.buffer
 channel_sum-law p d n port m w inputs sound inside e =
     let link = link-from p n port m (positive-sound p sound) inside e in

@@ -29,7 +29,8 @@ unfolding everything quiet_for
 unreal_places_are_filled = refl
 
 abbrev IsEmptyAt : ℕ → ℕ → ℕ → Type 0
-IsEmptyAt n port c = ((between n).queue port c ≡ []) × ((between n).stage port c ≡ Idle) × ((between n).row port c ≡ None)
+IsEmptyAt n port c =
+    ((between n).queue port c ≡ []) × ((between n).stage port c ≡ Idle) × ((between n).row port c ≡ None)
 
 empty-at : (n port c : ℕ) → n < 2 → port < 3 → c < 1 → IsEmptyAt n port c
 unfolding everything quiet_for
@@ -76,7 +77,8 @@ only-take e payload inside low high is = go inside.0 inside.1 inside.2
     go zero less at = absurd (let early : 0 ≡ e.cycle = ap (λ (y : Event). y.cycle) at in omega arith)
     go (suc zero) less at = absurd (let early : 9 ≡ e.cycle = ap (λ (y : Event). y.cycle) at in omega arith)
     go (suc (suc zero)) less at = (sym (ap (λ (y : Event). y.cycle) at), sym (ap (λ (y : Event). y.tile) at))
-    go (suc (suc (suc zero))) less at = absurd (let kind : Got (record { head = true; tail = true; payload = 0xb }) ≡ Take payload = ap (λ (y : Event). y.kind) at ∙ is in cc)
+    go (suc (suc (suc zero))) less at =
+        absurd (let kind : Got (record { head = true; tail = true; payload = 0xb }) ≡ Take payload = ap (λ (y : Event). y.kind) at ∙ is in cc)
     go (suc (suc (suc (suc k)))) less at = absurd (omega arith)
 
 -- whether tile n hears in each cycle
@@ -84,7 +86,8 @@ abbrev all_hear : ℕ → List Input → Bool
 all_hear n [] = true
 all_hear n (x ∷ xs) = x.hears n && all_hear n xs
 
-heard : (n : ℕ) (xs : List Input) → all_hear n xs ≡ true → (k : ℕ) (x : Input) → slice_get xs k ≡ Some x → x.hears n ≡ true
+heard : (n : ℕ) (xs : List Input) → all_hear n xs ≡ true → (k : ℕ) (x : Input) → slice_get xs k ≡ Some x
+    → x.hears n ≡ true
 heard n [] all k x at = absurd (cc at)
 heard n (y ∷ ys) all zero x at = let same : y ≡ x = cc at in ap (λ (z : Input). z.hears n) (sym same) ∙ and-first (y.hears n) (all_hear n ys) all
 heard n (y ∷ ys) all (suc k) x at = heard n ys (rest (y.hears n) all) k x at

@@ -43,7 +43,8 @@ kept {X} q (x ∷ xs) z inside passes = go (q x) refl (one-of x xs z inside) (λ
     go false e (inl at) more = absurd (let no : true ≡ false = sym passes ∙ ap q (sym at) ∙ e in cc)
     go false e (inr within) more = more within
 
-flat-member : {X Y : Type 0} (f : X → List Y) (xs : List X) (x : X) (y : Y) → Contains xs x → Contains (f x) y → Contains (flat_map f xs) y
+flat-member : {X Y : Type 0} (f : X → List Y) (xs : List X) (x : X) (y : Y) → Contains xs x → Contains (f x) y
+    → Contains (flat_map f xs) y
 flat-member f [] x y inside there = absurd (nothing x inside)
 flat-member {X} {Y} f (a ∷ xs) x y inside there =
     subst (λ ys. Contains ys y) (sym (flat_map-cons f a xs)) (go (one-of a xs x inside) (λ within. flat-member f xs x y within there))
@@ -55,18 +56,21 @@ flat-member {X} {Y} f (a ∷ xs) x y inside there =
 tabulate-member : {X : Type 0} (n : ℕ) (f : ℕ → X) (k : ℕ) → k < n → Contains (tabulate n f) (f k)
 tabulate-member zero f k less = absurd (omega arith)
 tabulate-member (suc n) f zero less = first (f 0) (tabulate n (λ j. f (suc j)))
-tabulate-member (suc n) f (suc k) less = later (f 0) (tabulate n (λ j. f (suc j))) (f (suc k)) (tabulate-member n (λ j. f (suc j)) k (omega arith))
+tabulate-member (suc n) f (suc k) less =
+    later (f 0) (tabulate n (λ j. f (suc j))) (f (suc k)) (tabulate-member n (λ j. f (suc j)) k (omega arith))
 
 -- ---- events
 
 -- the events of a tile are among those of its cycle
-tile-member : (p : Plan) (d t : ℕ) (s : State) (x : Input) (n : ℕ) (e : Event) → n < tiles p → hosts p n d ≡ true → Contains (tile_events p d t s x n) e → Contains (cycle_events p d t s x) e
+tile-member : (p : Plan) (d t : ℕ) (s : State) (x : Input) (n : ℕ) (e : Event) → n < tiles p → hosts p n d ≡ true
+    → Contains (tile_events p d t s x n) e → Contains (cycle_events p d t s x) e
 tile-member p d t s x n e inside hosted there =
     flat-member (tile_events p d t s x) (hosts_of p d) n e
     (kept (λ k. hosts p k d) (tabulate (tiles p) (λ k. k)) n (tabulate-member (tiles p) (λ k. k) n inside) hosted) there
 
 -- and those of a cycle among those of the run
-cycle-member : (p : Plan) (d : ℕ) (xs : List Input) (u k : ℕ) (s : State) (x : Input) (e : Event) → slice_get xs k ≡ Some x
+cycle-member : (p : Plan) (d : ℕ) (xs : List Input) (u k : ℕ) (s : State) (x : Input) (e : Event)
+    → slice_get xs k ≡ Some x
     → Contains (cycle_events p d (u + k) (state_from p d u s (take k xs)) x) e → Contains (events_from p d u s xs) e
 cycle-member p d [] u k s x e at there = absurd (cc at)
 cycle-member p d (y ∷ ys) u zero s x e at there =
@@ -100,7 +104,8 @@ tabulate-take xs zero few = refl
 tabulate-take [] (suc t) few = absurd (omega arith)
 tabulate-take (x ∷ xs) (suc t) few = ap (λ ys. x ∷ ys) (tabulate-take xs t (omega arith))
 
-pub state-taken : (p : Plan) (d : ℕ) (xs : List Input) (t : ℕ) → t ≤ length xs → state_after p d (input_of xs) t ≡ run p d (take t xs)
+pub state-taken : (p : Plan) (d : ℕ) (xs : List Input) (t : ℕ) → t ≤ length xs
+    → state_after p d (input_of xs) t ≡ run p d (take t xs)
 unfolding input_of
 state-taken p d xs t few = after-run p d (input_of xs) t ∙ ap (run p d) (tabulate-take xs t few)
 
@@ -110,7 +115,8 @@ some-input (x ∷ xs) zero less = (x, refl)
 some-input (x ∷ xs) (suc k) less = some-input xs k (omega arith)
 
 -- an event of a tile in cycle k is one of the run
-pub run-member : (p : Plan) (d : ℕ) (xs : List Input) (k : ℕ) (x : Input) (n : ℕ) (e : Event) → slice_get xs k ≡ Some x → n < tiles p → hosts p n d ≡ true
+pub run-member : (p : Plan) (d : ℕ) (xs : List Input) (k : ℕ) (x : Input) (n : ℕ) (e : Event) → slice_get xs k ≡ Some x
+    → n < tiles p → hosts p n d ≡ true
     → Contains (tile_events p d k (state_after p d (input_of xs) k) x n) e → Contains (events_from p d 0 (start p) xs) e
 run-member p d xs k x n e at inside hosted there =
     let below = slice_get_within xs k x at in
@@ -126,7 +132,8 @@ in-first : {X : Type 0} (xs ys zs : List X) (x : X) → Contains xs x → Contai
 in-first xs ys zs x inside = Contains-append_left (xs ++ ys) zs x (Contains-append_left xs ys x inside)
 
 -- a word that is taken is an event
-pub take-event : (p : Plan) (d : ℕ) (xs : List Input) (k : ℕ) (x : Input) (n : ℕ) (word : Offer) → slice_get xs k ≡ Some x → n < tiles p
+pub take-event : (p : Plan) (d : ℕ) (xs : List Input) (k : ℕ) (x : Input) (n : ℕ) (word : Offer)
+    → slice_get xs k ≡ Some x → n < tiles p
     → word_in p (state_after p d (input_of xs) k n) (fed p d (state_after p d (input_of xs) k) x n) ≡ Some word
     → Contains (events_from p d 0 (start p) xs) (record { cycle = k; tile = n; domain = d; kind = Take word.payload })
 unfolding word_in
@@ -136,7 +143,8 @@ take-event p d xs k x n word at inside e =
     there : is_open p (state_after p d (input_of xs) k n) ≡ true → hosts p n d ≡ true → x.offer n ≡ Some word
         → Contains (events_from p d 0 (start p) xs) (record { cycle = k; tile = n; domain = d; kind = Take word.payload })
     there ready hosted offer =
-        let made : record { cycle = k; tile = n; domain = d; kind = Take word.payload } ∷ [] ≡ offer_events k n d (is_open p (state_after p d (input_of xs) k n)) (x.offer n) = sym (rw (ready, offer) refl) in
+        let made : record { cycle = k; tile = n; domain = d; kind = Take word.payload } ∷ [] ≡ offer_events k n d (is_open p (state_after p d (input_of xs) k n)) (x.offer n) =
+        sym (rw (ready, offer) refl) in
         run-member p d xs k x n (record { cycle = k; tile = n; domain = d; kind = Take word.payload }) at inside hosted
         (in-first (offer_events k n d (is_open p (state_after p d (input_of xs) k n)) (x.offer n)) _ _ _
         (subst (λ es. Contains es (record { cycle = k; tile = n; domain = d; kind = Take word.payload })) made (first _ [])))
@@ -149,12 +157,15 @@ take-event p d xs k x n word at inside e =
     open_it false ready h hosted offer = absurd (cc offer)
 
 -- a flit that is heard is one
-pub got-event : (p : Plan) (d : ℕ) (xs : List Input) (k : ℕ) (x : Input) (n : ℕ) (f : Flit) → slice_get xs k ≡ Some x → n < tiles p → hosts p n d ≡ true → x.hears n ≡ true
+pub got-event : (p : Plan) (d : ℕ) (xs : List Input) (k : ℕ) (x : Input) (n : ℕ) (f : Flit) → slice_get xs k ≡ Some x
+    → n < tiles p → hosts p n d ≡ true → x.hears n ≡ true
     → (state_after p d (input_of xs) k n).ejected ≡ Some f
     → Contains (events_from p d 0 (start p) xs) (record { cycle = k; tile = n; domain = d; kind = Got (record { head = f.head; tail = f.tail; payload = f.payload }) })
 got-event p d xs k x n f at inside hosted hears e =
-    let event : Event = record { cycle = k; tile = n; domain = d; kind = Got (record { head = f.head; tail = f.tail; payload = f.payload }) } in
-    let made : event ∷ [] ≡ got_events k n d (x.hears n) (ejected_of (state_after p d (input_of xs) k n).ejected) = sym (rw (hears, e) refl) in
+    let event : Event =
+    record { cycle = k; tile = n; domain = d; kind = Got (record { head = f.head; tail = f.tail; payload = f.payload }) } in
+    let made : event ∷ [] ≡ got_events k n d (x.hears n) (ejected_of (state_after p d (input_of xs) k n).ejected) =
+    sym (rw (hears, e) refl) in
     run-member p d xs k x n event at inside hosted
     (Contains-append_right (offer_events k n d (is_open p (state_after p d (input_of xs) k n)) (x.offer n) ++ drop_events k n d (state_after p d (input_of xs) k n).dropped) _ event
     (subst (λ es. Contains es event) made (first event [])))

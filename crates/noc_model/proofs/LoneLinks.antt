@@ -24,7 +24,8 @@ use Rattle.noc_model.proofs.LoneMoves.{only-of, sent-elsewhere, sent-lists, link
 -- ---- out of a list
 
 -- over a link that the domain owns
-pub active-sent : (p : Plan) (d t : ℕ) (s : State) (x : Input) (f : Flit) (n port c o w m : ℕ) → IsCalm p d t s x → IsListed p d s f n port c (Active o w) → f.tail ≡ true
+pub active-sent : (p : Plan) (d t : ℕ) (s : State) (x : Input) (f : Flit) (n port c o w m : ℕ) → IsCalm p d t s x
+    → IsListed p d s f n port c (Active o w) → f.tail ≡ true
     → neighbour p n o ≡ Some m → owner p n o (pos t) ≡ d → IsLinked p d (step p d (pos t) s x) f n o m w 0
 active-sent p d t s x f n port c o w m calm is tail e owned =
     let link = link-from p n o m (positive-sound p calm.sound) is.inside e in
@@ -42,32 +43,40 @@ active-sent p d t s x f n port c o w m calm is tail e owned =
   where
     rows-after : AreRowsEmpty p (step p d (pos t) s x) (Is n o 0)
     rows-after n' o' m' zero inside there below differ =
-        row-step p d (pos t) s x n' o' zero ∙ sent-elsewhere p d t s x f n port c o w n' o' is inside (λ a b. differ (a, b, refl))
+        row-step p d (pos t) s x n' o' zero
+        ∙ sent-elsewhere p d t s x f n port c o w n' o' is inside (λ a b. differ (a, b, refl))
     rows-after n' o' m' (suc i) inside there below differ =
         row-step p d (pos t) s x n' o' (suc i) ∙ is.rows n' o' m' i inside there (omega arith) (λ h. h)
 
 -- into the ejection place
-pub active-ejected : (p : Plan) (d t : ℕ) (s : State) (x : Input) (f : Flit) (n port c w : ℕ) → IsCalm p d t s x → IsListed p d s f n port c (Active 0 w) → hosts p n d ≡ true
+pub active-ejected : (p : Plan) (d t : ℕ) (s : State) (x : Input) (f : Flit) (n port c w : ℕ) → IsCalm p d t s x
+    → IsListed p d s f n port c (Active 0 w) → hosts p n d ≡ true
     → (step p d (pos t) s x n).ejected ≡ Some f
 unfolding takes
 active-ejected p d t s x f n port c w calm is hosted =
-    let empty : takes p d n (pos t) (s n) (fed p d s x n) 0 w ≡ true = ap (λ y. is_none y || (fed p d s x n).hears) (is.outs n is.inside hosted) in
+    let empty : takes p d n (pos t) (s n) (fed p d s x n) 0 w ≡ true =
+    ap (λ y. is_none y || (fed p d s x n).hears) (is.outs n is.inside hosted) in
     ejected-step p d (pos t) s x n
     ∙ ap (λ y. next_ejected y (fed p d s x n).hears (s n).ejected) (sent-only p d n (pos t) (s n) (fed p d s x n) port c 0 w f (only-of p d s f n port c 0 w is) empty)
 
 -- ---- on a link
 
-linked-still : (p : Plan) (d t : ℕ) (s : State) (x : Input) (n : ℕ) → AreListsEmpty p d s Never → n < tiles p → IsStill p d n (pos t) (s n) (fed p d s x n)
-linked-still p d t s x n lists inside = empty-still p d n (pos t) (s n) (fed p d s x n) (λ port c below. lists.queue n port c inside below (λ h. h))
+linked-still : (p : Plan) (d t : ℕ) (s : State) (x : Input) (n : ℕ) → AreListsEmpty p d s Never → n < tiles p
+    → IsStill p d n (pos t) (s n) (fed p d s x n)
+linked-still p d t s x n lists inside =
+    empty-still p d n (pos t) (s n) (fed p d s x n) (λ port c below. lists.queue n port c inside below (λ h. h))
 
-nothing-sent : (p : Plan) (d t : ℕ) (s : State) (x : Input) (n o : ℕ) → AreListsEmpty p d s Never → n < tiles p → sent p d n (pos t) (s n) (fed p d s x n) o ≡ None
-nothing-sent p d t s x n o lists inside = still-sent p d n (pos t) (s n) (fed p d s x n) o (linked-still p d t s x n lists inside)
+nothing-sent : (p : Plan) (d t : ℕ) (s : State) (x : Input) (n o : ℕ) → AreListsEmpty p d s Never → n < tiles p
+    → sent p d n (pos t) (s n) (fed p d s x n) o ≡ None
+nothing-sent p d t s x n o lists inside =
+    still-sent p d n (pos t) (s n) (fed p d s x n) o (linked-still p d t s x n lists inside)
 
 last-other : (a k : ℕ) → suc k < a → a - 1 ≡ k → ⊥
 last-other a k less e = omega arith
 
 -- it goes on by a place
-pub linked-shifted : (p : Plan) (d t : ℕ) (s : State) (x : Input) (f : Flit) (n o m w i : ℕ) → IsCalm p d t s x → IsLinked p d s f n o m w i → suc i < p.stages
+pub linked-shifted : (p : Plan) (d t : ℕ) (s : State) (x : Input) (f : Flit) (n o m w i : ℕ) → IsCalm p d t s x
+    → IsLinked p d s f n o m w i → suc i < p.stages
     → IsLinked p d (step p d (pos t) s x) f n o m w (suc i)
 linked-shifted p d t s x f n o m w i calm is more = record {
   inside = is.inside;
@@ -84,14 +93,16 @@ linked-shifted p d t s x f n o m w i calm is more = record {
   outs = outs-step p d (pos t) s x (λ k inside. nothing-sent p d t s x k 0 is.lists inside) is.outs;
 }
   where
-    quiet : (n' port c : ℕ) → n' < tiles p → c < in_channels p d port → ((step p d (pos t) s x n').queue port c ≡ []) × ((step p d (pos t) s x n').stage port c ≡ Idle)
+    quiet : (n' port c : ℕ) → n' < tiles p → c < in_channels p d port
+        → ((step p d (pos t) s x n').queue port c ≡ []) × ((step p d (pos t) s x n').stage port c ≡ Idle)
     quiet n' port c inside below =
         quiet-step p d (pos t) s x n' port c (is.lists.queue n' port c inside below (λ h. h)) (is.lists.stage n' port c inside below (λ h. h))
         (nothing-comes p d s x n' port c (calm.no_word n' inside)
         (λ local. nothing-arrives p s (Is n o i) n' port calm.sound is.rows inside (λ k e h. last-other p.stages i more h.2)))
 
 -- it comes to the next tile
-pub linked-arrived : (p : Plan) (d t : ℕ) (s : State) (x : Input) (f : Flit) (n o m w i : ℕ) → IsCalm p d t s x → IsLinked p d s f n o m w i → suc i ≡ p.stages
+pub linked-arrived : (p : Plan) (d t : ℕ) (s : State) (x : Input) (f : Flit) (n o m w i : ℕ) → IsCalm p d t s x
+    → IsLinked p d s f n o m w i → suc i ≡ p.stages
     → IsListed p d (step p d (pos t) s x) f m (opposite o) w Idle
 linked-arrived p d t s x f n o m w i calm is last = record {
   inside = inside;
@@ -138,7 +149,8 @@ linked-arrived p d t s x f n o m w i calm is last = record {
         at_link : (k : ℕ) → neighbour p n' port ≡ Some k → k ≡ n → opposite port ≡ o → ⊥
         at_link k e same out =
             let back = link-from p n' port k (positive-sound p calm.sound) there e in
-            let one : Some n' ≡ Some m = sym back.back ∙ ap (λ a. neighbour p a (opposite port)) same ∙ ap (neighbour p n) out ∙ is.link in
+            let one : Some n' ≡ Some m =
+            sym back.back ∙ ap (λ a. neighbour p a (opposite port)) same ∙ ap (neighbour p n) out ∙ is.link in
             differ (cc one) (sym back.is_opposite ∙ ap opposite out)
 
     quiet : (n' port c : ℕ) → n' < tiles p → c < in_channels p d port → (Is m (opposite o) w n' port c → ⊥)
@@ -150,8 +162,10 @@ linked-arrived p d t s x f n o m w i calm is last = record {
         other false e at by = refl
         other true e at by = absurd (differ (at, by, sym (grind (arith, nat_tests, e))))
 
-        comes : Is m (opposite o) c n' port c ⊎ (Is m (opposite o) c n' port c → ⊥) → comes_in p d (s n') (fed p d s x n') port c ≡ []
-        comes (inr away) = nothing-comes p d s x n' port c (calm.no_word n' there) (λ local. elsewhere n' port there (λ a b. away (a, b, refl)))
+        comes : Is m (opposite o) c n' port c ⊎ (Is m (opposite o) c n' port c → ⊥)
+            → comes_in p d (s n') (fed p d s x n') port c ≡ []
+        comes (inr away) =
+            nothing-comes p d s x n' port c (calm.no_word n' there) (λ local. elsewhere n' port there (λ a b. away (a, b, refl)))
         comes (inl at) =
             ap (λ a. comes_in p d (s a) (fed p d s x a) port c) at.0
             ∙ ap (λ b. comes_in p d (s m) (fed p d s x m) b c) at.1
@@ -166,8 +180,10 @@ abbrev pub flit_for : ℕ → Offer → Flit
 flit_for dest word = record { head = true; tail = true; dest = dest; payload = word.payload }
 
 -- it enters the current list of the local port
-pub word-listed : (p : Plan) (d t : ℕ) (s : State) (x : Input) (n dest : ℕ) (word : Offer) → IsSound p → IsReached p d (pos t) s → IsVoid p d s → n < tiles p
-    → (s n).packet ≡ Between → word_in p (s n) (fed p d s x n) ≡ Some word → word.last ≡ true → lookup p d word.address ≡ Some dest
+pub word-listed : (p : Plan) (d t : ℕ) (s : State) (x : Input) (n dest : ℕ) (word : Offer) → IsSound p
+    → IsReached p d (pos t) s → IsVoid p d s → n < tiles p
+    → (s n).packet ≡ Between → word_in p (s n) (fed p d s x n) ≡ Some word → word.last ≡ true
+    → lookup p d word.address ≡ Some dest
     → ((k : ℕ) → k < tiles p → k ≢ n → word_in p (s k) (fed p d s x k) ≡ None)
     → IsListed p d (step p d (pos t) s x) (flit_for dest word) n 0 (s n).current Idle
 word-listed p d t s x n dest word sound reached void inside between taken only home others = record {
@@ -210,13 +226,17 @@ word-listed p d t s x n dest word sound reached void inside between taken only h
     quiet n' port c there below differ =
         quiet-step p d (pos t) s x n' port c (void.lists.queue n' port c there below (λ h. h)) (void.lists.stage n' port c there below (λ h. h)) (comes port differ (same-or-not n' n))
       where
-        other : (b : Bool) (fs : List Flit) → ((s n').current == c) ≡ b → (n' ≡ n) → (Is n 0 here n' 0 c → ⊥) → (if b then fs else []) ≡ []
+        other : (b : Bool) (fs : List Flit) → ((s n').current == c) ≡ b → (n' ≡ n) → (Is n 0 here n' 0 c → ⊥)
+            → (if b then fs else []) ≡ []
         other false fs e at away = refl
         other true fs e at away =
             let same : (s n').current ≡ c = grind (arith, nat_tests, e) in
             absurd (away (at, refl, sym same ∙ ap (λ k. (s k).current) at))
 
         comes : (q : ℕ) → (Is n 0 here n' q c → ⊥) → (n' ≡ n) ⊎ (n' ≢ n) → comes_in p d (s n') (fed p d s x n') q c ≡ []
-        comes q away (inr far) = nothing-comes p d s x n' q c (others n' there far) (λ local. nothing-arrives p s Never n' q sound void.rows there (λ k e h. h))
-        comes zero away (inl at) = other ((s n').current == c) (option_to_list (entry p d (s n').packet (word_in p (s n') (fed p d s x n')))) refl at away
-        comes (suc q) away (inl at) = ap (λ y. flit_on y c) (nothing-arrives p s Never n' (suc q) sound void.rows there (λ k e h. h))
+        comes q away (inr far) =
+            nothing-comes p d s x n' q c (others n' there far) (λ local. nothing-arrives p s Never n' q sound void.rows there (λ k e h. h))
+        comes zero away (inl at) =
+            other ((s n').current == c) (option_to_list (entry p d (s n').packet (word_in p (s n') (fed p d s x n')))) refl at away
+        comes (suc q) away (inl at) =
+            ap (λ y. flit_on y c) (nothing-arrives p s Never n' (suc q) sound void.rows there (λ k e h. h))

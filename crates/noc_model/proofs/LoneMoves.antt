@@ -28,15 +28,20 @@ use Rattle.noc_model.proofs.LoneState.{same-or-not, Never, Is, is-or-not, AreLis
 -- ---- in a list
 
 -- a flit at the front of a list of its tile is the one
-only-at : (p : Plan) (d : ℕ) (s : State) (f : Flit) (n port c : ℕ) (st : Stage) → IsListed p d s f n port c st → IsOnlyAt p d (s n) port c
+only-at : (p : Plan) (d : ℕ) (s : State) (f : Flit) (n port c : ℕ) (st : Stage) → IsListed p d s f n port c st
+    → IsOnlyAt p d (s n) port c
 only-at p d s f n port c st is port' c' g below e = go (is-or-not n port c n port' c')
   where
     go : Is n port c n port' c' ⊎ (Is n port c n port' c' → ⊥) → (port' ≡ port) × (c' ≡ c)
     go (inl h) = (h.1, h.2)
-    go (inr differ) = let none = is.lists.queue n port' c' is.inside below differ in let h = ap front none in absurd (cc)
+    go (inr differ) =
+        let none = is.lists.queue n port' c' is.inside below differ in
+        let h = ap front none in
+        absurd (cc)
 
 -- a channel that holds no output sends nothing
-waiting-still : (p : Plan) (d : ℕ) (t : ℤ) (s : State) (x : Input) (f : Flit) (n port c : ℕ) (st : Stage) → IsListed p d s f n port c st → ((o w : ℕ) → st ≡ Active o w → ⊥)
+waiting-still : (p : Plan) (d : ℕ) (t : ℤ) (s : State) (x : Input) (f : Flit) (n port c : ℕ) (st : Stage)
+    → IsListed p d s f n port c st → ((o w : ℕ) → st ≡ Active o w → ⊥)
     → IsStill p d n t (s n) (fed p d s x n)
 waiting-still p d t s x f n port c st is waits port' g e =
     let ready = grant-ready p d n t (s n) (fed p d s x n) port' g e in
@@ -44,14 +49,16 @@ waiting-still p d t s x f n port c st is waits port' g e =
     waits g.out g.to (sym is.stage ∙ sym (ap (λ k. (s n).stage k g.channel) at.0 ∙ ap ((s n).stage port) at.1) ∙ ready.active)
 
 -- it is routed
-pub idle-routed : (p : Plan) (d t : ℕ) (s : State) (x : Input) (f : Flit) (n port c : ℕ) → IsCalm p d t s x → IsListed p d s f n port c Idle
+pub idle-routed : (p : Plan) (d t : ℕ) (s : State) (x : Input) (f : Flit) (n port c : ℕ) → IsCalm p d t s x
+    → IsListed p d s f n port c Idle
     → IsListed p d (step p d (pos t) s x) f n port c (Routed (route p n f.dest))
 idle-routed p d t s x f n port c calm is =
     listed-stays p d t s x f n port c Idle (Routed (route p n f.dest)) calm is (waiting-still p d (pos t) s x f n port c Idle is (λ o w e. cc e))
     (ap (next_stage p d n (pos t) (s n) (fed p d s x n) port c) is.stage ∙ ap (λ fs. routed p n fs Idle) is.queue)
 
 -- it is given a channel of its output
-pub routed-active : (p : Plan) (d t : ℕ) (s : State) (x : Input) (f : Flit) (n port c o : ℕ) → IsCalm p d t s x → IsListed p d s f n port c (Routed o)
+pub routed-active : (p : Plan) (d t : ℕ) (s : State) (x : Input) (f : Flit) (n port c o : ℕ) → IsCalm p d t s x
+    → IsListed p d s f n port c (Routed o)
     → (w : ℕ) × IsListed p d (step p d (pos t) s x) f n port c (Active o w)
 routed-active p d t s x f n port c o calm is =
     let next = activated-only p d n (pos t) (s n) (fed p d s x n) port c o (record {
@@ -64,14 +71,16 @@ routed-active p d t s x f n port c o calm is =
     }) in
     (next.0, listed-stays p d t s x f n port c (Routed o) (Active o next.0) calm is (waiting-still p d (pos t) s x f n port c (Routed o) is (λ o' w e. cc e)) next.1)
   where
-    at : (port' c' : ℕ) (st : Stage) → c' < in_channels p d port' → (s n).stage port' c' ≡ st → (st ≡ Idle → ⊥) → (port' ≡ port) × (c' ≡ c)
+    at : (port' c' : ℕ) (st : Stage) → c' < in_channels p d port' → (s n).stage port' c' ≡ st → (st ≡ Idle → ⊥)
+        → (port' ≡ port) × (c' ≡ c)
     at port' c' st below e busy = go (is-or-not n port c n port' c')
       where
         go : Is n port c n port' c' ⊎ (Is n port c n port' c' → ⊥) → (port' ≡ port) × (c' ≡ c)
         go (inl h) = (h.1, h.2)
         go (inr differ) = absurd (busy (sym e ∙ is.lists.stage n port' c' is.inside below differ))
 
-    routed-only : (port' c' o' : ℕ) → c' < in_channels p d port' → (s n).stage port' c' ≡ Routed o' → (port' ≡ port) × (c' ≡ c)
+    routed-only : (port' c' o' : ℕ) → c' < in_channels p d port' → (s n).stage port' c' ≡ Routed o'
+        → (port' ≡ port) × (c' ≡ c)
     routed-only port' c' o' below e = at port' c' (Routed o') below e (λ h. cc h)
 
     free : (w : ℕ) → (s n).held o w ≡ false
@@ -83,10 +92,13 @@ routed-active p d t s x f n port c o calm is =
             let has = (calm.reached.held n).holder o w e in
             let holder = has.is_holder in
             let same = at has.port has.channel (Active o w) holder.below holder.active (λ h. cc h) in
-            let bad : Routed o ≡ Active o w = sym is.stage ∙ sym (ap (λ k. (s n).stage k has.channel) same.0 ∙ ap ((s n).stage port) same.1) ∙ holder.active in
+            let bad : Routed o ≡ Active o w =
+            sym is.stage ∙ sym (ap (λ k. (s n).stage k has.channel) same.0 ∙ ap ((s n).stage port) same.1)
+            ∙ holder.active in
             absurd (cc bad)
 
-pub only-of : (p : Plan) (d : ℕ) (s : State) (f : Flit) (n port c o w : ℕ) → IsListed p d s f n port c (Active o w) → IsOnly p d (s n) port c o w f
+pub only-of : (p : Plan) (d : ℕ) (s : State) (f : Flit) (n port c o w : ℕ) → IsListed p d s f n port c (Active o w)
+    → IsOnly p d (s n) port c o w f
 only-of p d s f n port c o w is = record {
   inside = is.there;
   below = is.below;
@@ -96,11 +108,13 @@ only-of p d s f n port c o w is = record {
 }
 
 -- it waits where its output is another domain's
-pub active-waits : (p : Plan) (d t : ℕ) (s : State) (x : Input) (f : Flit) (n port c o w : ℕ) → IsCalm p d t s x → IsListed p d s f n port c (Active o w)
+pub active-waits : (p : Plan) (d t : ℕ) (s : State) (x : Input) (f : Flit) (n port c o w : ℕ) → IsCalm p d t s x
+    → IsListed p d s f n port c (Active o w)
     → o ≢ 0 → owner p n o (pos t) ≢ d → IsListed p d (step p d (pos t) s x) f n port c (Active o w)
 unfolding takes
 active-waits p d t s x f n port c o w calm is link other =
-    let still = still-only p d n (pos t) (s n) (fed p d s x n) port c o w f (only-of p d s f n port c o w is) (refuses o link other) in
+    let still =
+    still-only p d n (pos t) (s n) (fed p d s x n) port c o w f (only-of p d s f n port c o w is) (refuses o link other) in
     listed-stays p d t s x f n port c (Active o w) (Active o w) calm is still
     (ap (next_stage p d n (pos t) (s n) (fed p d s x n) port c) is.stage
     ∙ ap (λ b. if b && is_tail (front ((s n).queue port c)) then Idle else Active o w) (still-leaves p d n (pos t) (s n) (fed p d s x n) port c still))
@@ -111,7 +125,8 @@ active-waits p d t s x f n port c o w calm is link other =
 
 -- ---- it is sent
 
-pub sent-elsewhere : (p : Plan) (d t : ℕ) (s : State) (x : Input) (f : Flit) (n port c o w n' o' : ℕ) → IsListed p d s f n port c (Active o w) → n' < tiles p
+pub sent-elsewhere : (p : Plan) (d t : ℕ) (s : State) (x : Input) (f : Flit) (n port c o w n' o' : ℕ)
+    → IsListed p d s f n port c (Active o w) → n' < tiles p
     → (n' ≡ n → o' ≡ o → ⊥) → sent p d n' (pos t) (s n') (fed p d s x n') o' ≡ None
 sent-elsewhere p d t s x f n port c o w n' o' is inside differ = go (same-or-not n' n)
   where
@@ -119,10 +134,12 @@ sent-elsewhere p d t s x f n port c o w n' o' is inside differ = go (same-or-not
     go (inl e) =
         subst (λ k. sent p d k (pos t) (s k) (fed p d s x k) o' ≡ None) (sym e)
         (sent-other p d n (pos t) (s n) (fed p d s x n) port c o w o' f (only-of p d s f n port c o w is) (differ e))
-    go (inr other) = still-sent p d n' (pos t) (s n') (fed p d s x n') o' (other-still p d (pos t) s x f n port c n' (Active o w) is inside other)
+    go (inr other) =
+        still-sent p d n' (pos t) (s n') (fed p d s x n') o' (other-still p d (pos t) s x f n port c n' (Active o w) is inside other)
 
 -- its list is empty then, and its channel idle
-pub sent-lists : (p : Plan) (d t : ℕ) (s : State) (x : Input) (f : Flit) (n port c o w : ℕ) → IsCalm p d t s x → IsListed p d s f n port c (Active o w) → f.tail ≡ true
+pub sent-lists : (p : Plan) (d t : ℕ) (s : State) (x : Input) (f : Flit) (n port c o w : ℕ) → IsCalm p d t s x
+    → IsListed p d s f n port c (Active o w) → f.tail ≡ true
     → takes p d n (pos t) (s n) (fed p d s x n) o w ≡ true → AreListsEmpty p d (step p d (pos t) s x) Never
 sent-lists p d t s x f n port c o w calm is tail taken = record {
   queue = λ n' port' c' inside below never. (at n' port' c' inside below).0;
@@ -145,15 +162,18 @@ sent-lists p d t s x f n port c o w calm is tail taken = record {
           ∙ ap (λ b. if b then Idle else Active o w) tail,
     )
 
-    at : (n' port' c' : ℕ) → n' < tiles p → c' < in_channels p d port' → ((step p d (pos t) s x n').queue port' c' ≡ []) × ((step p d (pos t) s x n').stage port' c' ≡ Idle)
+    at : (n' port' c' : ℕ) → n' < tiles p → c' < in_channels p d port'
+        → ((step p d (pos t) s x n').queue port' c' ≡ []) × ((step p d (pos t) s x n').stage port' c' ≡ Idle)
     at n' port' c' inside below = go (is-or-not n port c n' port' c')
       where
         There : ℕ → ℕ → ℕ → Type 0
         There a b e = ((step p d (pos t) s x a).queue b e ≡ []) × ((step p d (pos t) s x a).stage b e ≡ Idle)
 
-        go : Is n port c n' port' c' ⊎ (Is n port c n' port' c' → ⊥) → ((step p d (pos t) s x n').queue port' c' ≡ []) × ((step p d (pos t) s x n').stage port' c' ≡ Idle)
+        go : Is n port c n' port' c' ⊎ (Is n port c n' port' c' → ⊥)
+            → ((step p d (pos t) s x n').queue port' c' ≡ []) × ((step p d (pos t) s x n').stage port' c' ≡ Idle)
         go (inl h) = rw (h.0, h.1, h.2) here
-        go (inr differ) = quiet-step p d (pos t) s x n' port' c' (is.lists.queue n' port' c' inside below differ) (is.lists.stage n' port' c' inside below differ) (nothing-in p d t s x n' port' c' calm is.rows inside)
+        go (inr differ) =
+            quiet-step p d (pos t) s x n' port' c' (is.lists.queue n' port' c' inside below differ) (is.lists.stage n' port' c' inside below differ) (nothing-in p d t s x n' port' c' calm is.rows inside)
 
 on_row-none : (k : ℕ) (row : ℕ → Option LinkFlit) (w : ℕ) → ((i : ℕ) → i < k → row i ≡ None) → on_row k row w ≡ 0
 on_row-none zero row w none = refl
@@ -173,8 +193,12 @@ link-differs p n o m positive e same = let is = neighbour-is p n o m e in go (wa
   where
     go : (v : Way) → has_link p n v ≡ true → tile_that_way p n v ≡ n → ⊥
     go Local h back = cc h
-    go (Plus i) h back = let m = move p n i true positive h in next-differs (side p i) (coord p n i) m.some m.from (sym m.at ∙ ap (λ k. coord p k i) back)
-    go (Minus i) h back = let m = move p n i false positive h in last-differs (side p i) (coord p n i) m.some m.from (sym m.at ∙ ap (λ k. coord p k i) back)
+    go (Plus i) h back =
+        let m = move p n i true positive h in
+        next-differs (side p i) (coord p n i) m.some m.from (sym m.at ∙ ap (λ k. coord p k i) back)
+    go (Minus i) h back =
+        let m = move p n i false positive h in
+        last-differs (side p i) (coord p n i) m.some m.from (sym m.at ∙ ap (λ k. coord p k i) back)
 
 pub in-link : (p : Plan) (d k : ℕ) → k ≢ 0 → in_channels p d k ≡ link_channels p d
 in-link p d zero link = absurd (link refl)
@@ -184,13 +208,15 @@ out-link : (p : Plan) (d k : ℕ) → k ≢ 0 → out_channels p d k ≡ link_ch
 out-link p d zero link = absurd (link refl)
 out-link p d (suc k) link = refl
 
-pub out-lane : (p : Plan) (d t : ℕ) (s : State) (x : Input) (f : Flit) (n port c o w : ℕ) → IsCalm p d t s x → IsListed p d s f n port c (Active o w) → o ≢ 0 → w < link_channels p d
+pub out-lane : (p : Plan) (d t : ℕ) (s : State) (x : Input) (f : Flit) (n port c o w : ℕ) → IsCalm p d t s x
+    → IsListed p d s f n port c (Active o w) → o ≢ 0 → w < link_channels p d
 out-lane p d t s x f n port c o w calm is link =
     let low = (subst (HasOutput p d n) is.stage ((calm.reached.sound n).stages port c)).1 in
     rw (← out-link p d o link) low
 
 -- by a link that the domain owns
-pub link-takes : (p : Plan) (d t : ℕ) (s : State) (x : Input) (f : Flit) (n port c o w m : ℕ) → IsCalm p d t s x → IsListed p d s f n port c (Active o w) → neighbour p n o ≡ Some m
+pub link-takes : (p : Plan) (d t : ℕ) (s : State) (x : Input) (f : Flit) (n port c o w m : ℕ) → IsCalm p d t s x
+    → IsListed p d s f n port c (Active o w) → neighbour p n o ≡ Some m
     → owner p n o (pos t) ≡ d → takes p d n (pos t) (s n) (fed p d s x n) o w ≡ true
 unfolding takes
 link-takes p d t s x f n port c o w m calm is e owned = may o link.leaves_port owned (omega (arith, calm.sums n o m w is.inside e, row, list, pulse, calm.sound.buffer.0))
@@ -205,11 +231,13 @@ link-takes p d t s x f n port c o w m calm is e owned = may o link.leaves_port o
     low = rw (in-link p d (opposite o) link.arrives_port) (out-lane p d t s x f n port c o w calm is link.leaves_port)
 
     list : length ((s m).queue (opposite o) w) ≡ 0
-    list = ap length (is.lists.queue m (opposite o) w (neighbour-inside p n o m (positive-sound p calm.sound) e) low (λ h. link-differs p n o m (positive-sound p calm.sound) e h.0))
+    list =
+        ap length (is.lists.queue m (opposite o) w (neighbour-inside p n o m (positive-sound p calm.sound) e) low (λ h. link-differs p n o m (positive-sound p calm.sound) e h.0))
 
     pulse : one_if ((s m).pulse (opposite o) w) ≡ 0
     pulse = ap one_if (is.pulses m (opposite o) w (neighbour-inside p n o m (positive-sound p calm.sound) e))
 
-    may : (k : ℕ) → k ≢ 0 → owner p n k (pos t) ≡ d → 0 < (s n).credits k w → takes p d n (pos t) (s n) (fed p d s x n) k w ≡ true
+    may : (k : ℕ) → k ≢ 0 → owner p n k (pos t) ≡ d → 0 < (s n).credits k w
+        → takes p d n (pos t) (s n) (fed p d s x n) k w ≡ true
     may zero linked own some = absurd (linked refl)
     may (suc k) linked own some = grind (arith, nat_tests, own, some)

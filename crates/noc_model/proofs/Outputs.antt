@@ -20,7 +20,8 @@ use Rattle.noc_model.proofs.Least.{least-member, pick-member}
 use Rattle.noc_model.proofs.Switch.{then-is}
 
 -- where coordinates differ they are on a side
-on_side : (p : Plan) (n dest i : ℕ) → AllPositive p.dims → coord p n i ≢ coord p dest i → (coord p n i < side p i) × (coord p dest i < side p i)
+on_side : (p : Plan) (n dest i : ℕ) → AllPositive p.dims → coord p n i ≢ coord p dest i
+    → (coord p n i < side p i) × (coord p dest i < side p i)
 unfolding coord side
 on_side p n dest i positive differ = go order
   where
@@ -28,22 +29,27 @@ on_side p n dest i positive differ = go order
     order = grind arith
 
     none : (m : ℕ) → length p.dims ≤ i → slice_index (coords_in p.dims m) i ≡ 0
-    none m past = get_or_past (coords_in p.dims m) i 0 (rw (length-within p.dims (coords_in p.dims m) (within-coords_in p.dims m positive)) past)
+    none m past =
+        get_or_past (coords_in p.dims m) i 0 (rw (length-within p.dims (coords_in p.dims m) (within-coords_in p.dims m positive)) past)
 
-    go : (i < length p.dims) ⊎ (length p.dims ≤ i) → (slice_index (coords_in p.dims n) i < slice_index_or p.dims i 1) × (slice_index (coords_in p.dims dest) i < slice_index_or p.dims i 1)
+    go : (i < length p.dims) ⊎ (length p.dims ≤ i)
+        → (slice_index (coords_in p.dims n) i < slice_index_or p.dims i 1) × (slice_index (coords_in p.dims dest) i < slice_index_or p.dims i 1)
     go (inl there) = (
       coord-within p.dims (coords_in p.dims n) i (within-coords_in p.dims n positive) there,
       coord-within p.dims (coords_in p.dims dest) i (within-coords_in p.dims dest positive) there,
     )
     go (inr past) = absurd (differ (none n past ∙ sym (none dest past)))
 
-plus-link : (torus : Bool) (k x y : ℕ) → x < k → y < k → x ≢ y → goes_plus torus k x y ≡ true → (nat_lt 1 k && (torus || nat_lt (x + 1) k)) ≡ true
+plus-link : (torus : Bool) (k x y : ℕ) → x < k → y < k → x ≢ y → goes_plus torus k x y ≡ true
+    → (nat_lt 1 k && (torus || nat_lt (x + 1) k)) ≡ true
 plus-link torus k x y hx hy differ goes = grind (arith, nat_tests)
 
-minus-link : (torus : Bool) (k x y : ℕ) → x < k → y < k → x ≢ y → goes_plus torus k x y ≡ false → (nat_lt 1 k && (torus || nat_lt 0 x)) ≡ true
+minus-link : (torus : Bool) (k x y : ℕ) → x < k → y < k → x ≢ y → goes_plus torus k x y ≡ false
+    → (nat_lt 1 k && (torus || nat_lt 0 x)) ≡ true
 minus-link torus k x y hx hy differ goes = grind (arith, nat_tests)
 
-first-link : (p : Plan) (n dest i : ℕ) (b : Bool) → AllPositive p.dims → First p n dest i b → has_link p n (by b i) ≡ true
+first-link : (p : Plan) (n dest i : ℕ) (b : Bool) → AllPositive p.dims → First p n dest i b
+    → has_link p n (by b i) ≡ true
 first-link p n dest i true positive first =
     let on = on_side p n dest i positive first.differ in
     plus-link p.torus (side p i) (coord p n i) (coord p dest i) on.0 on.1 first.differ first.goes
@@ -61,7 +67,8 @@ route-output p n dest positive = go (way_of (route p n dest)) refl (leads-to p n
   where
     go : (w : Way) → way_of (route p n dest) ≡ w → Leads p n dest w → IsOutput p n (route p n dest)
     go Local e home = inl (sym (port_of-way_of (route p n dest)) ∙ ap port_of e)
-    go w e (leads b i first) = inr (linked-some p n (route p n dest) (by b i) e (first-link p n dest i b positive first))
+    go w e (leads b i first) =
+        inr (linked-some p n (route p n dest) (by b i) e (first-link p n dest i b positive first))
 
 -- ---- classes and channels
 
@@ -78,10 +85,13 @@ and-first false b e = absurd (cc e)
 
 wrap-torus : (p : Plan) (n : ℕ) (w : Way) → is_wrap_way p n w ≡ true → p.torus ≡ true
 wrap-torus p n Local e = absurd (cc e)
-wrap-torus p n (Plus i) e = and-first p.torus (nat_lt 1 (side p i) && are_edges (side p i) (coord p n i) (next_in (side p i) (coord p n i))) e
-wrap-torus p n (Minus i) e = and-first p.torus (nat_lt 1 (side p i) && are_edges (side p i) (coord p n i) (last_in (side p i) (coord p n i))) e
+wrap-torus p n (Plus i) e =
+    and-first p.torus (nat_lt 1 (side p i) && are_edges (side p i) (coord p n i) (next_in (side p i) (coord p n i))) e
+wrap-torus p n (Minus i) e =
+    and-first p.torus (nat_lt 1 (side p i) && are_edges (side p i) (coord p n i) (last_in (side p i) (coord p n i))) e
 
-pub class-few : (p : Plan) (n in_port in_class out_port : ℕ) → in_class < classes p → class_after p n in_port in_class out_port < classes p
+pub class-few : (p : Plan) (n in_port in_class out_port : ℕ) → in_class < classes p
+    → class_after p n in_port in_class out_port < classes p
 unfolding class_after is_wrap
 class-few p n in_port in_class out_port low =
     few-class p.torus (is_wrap_way p n (way_of out_port)) (is_same_dim (way_of in_port) (way_of out_port)) in_class (wrap-torus p n (way_of out_port)) low
@@ -99,11 +109,13 @@ class-local p n in_port in_class = rw no_dim-local refl
 pub channel-class : (p : Plan) (d port c : ℕ) → c < in_channels p d port → c / channels p d < classes p
 channel-class p d port c below = class-below p d c (input-within p d port c below)
 
-pub option-map-is : {A B : Type 0} (f : A → B) (o : Option A) (y : B) → option_map f o ≡ Some y → (x : A) × (o ≡ Some x) × (f x ≡ y)
+pub option-map-is : {A B : Type 0} (f : A → B) (o : Option A) (y : B) → option_map f o ≡ Some y
+    → (x : A) × (o ≡ Some x) × (f x ≡ y)
 option-map-is f None y e = absurd (cc e)
 option-map-is f (Some x) y e = (x, refl, cc)
 
-free-few : (p : Plan) (d : ℕ) (s : Tile) (o class w : ℕ) → class < classes p → (o ≡ 0 → class ≡ 0) → free_channel p d s o class ≡ Some w → w < out_channels p d o
+free-few : (p : Plan) (d : ℕ) (s : Tile) (o class w : ℕ) → class < classes p → (o ≡ 0 → class ≡ 0)
+    → free_channel p d s o class ≡ Some w → w < out_channels p d o
 free-few p d s zero class w low local e =
     let found = option-map-is (pack p d class) (least 1 (λ j. not (s.held 0 (pack p d class j)))) w e in
     let member = least-member 1 (λ j. not (s.held 0 (pack p d class j))) found.0 found.1 in
@@ -111,12 +123,14 @@ free-few p d s zero class w low local e =
     let none : class * channels p d ≡ 0 = rw at (omega arith) in
     omega (arith, found.2, member.0)
 free-few p d s (suc o) class w low local e =
-    let found = option-map-is (pack p d class) (least (channels p d) (λ j. not (s.held (suc o) (pack p d class j)))) w e in
+    let found =
+    option-map-is (pack p d class) (least (channels p d) (λ j. not (s.held (suc o) (pack p d class j)))) w e in
     let member = least-member (channels p d) (λ j. not (s.held (suc o) (pack p d class j))) found.0 found.1 in
     rw (← found.2) (pack-below p d class found.0 low member.0)
 
 -- a channel of a class at an output is one of the output's
-pub free-there : (p : Plan) (d o class j : ℕ) → class < classes p → (o ≡ 0 → class ≡ 0) → j < at_local o 1 (channels p d) → pack p d class j < out_channels p d o
+pub free-there : (p : Plan) (d o class j : ℕ) → class < classes p → (o ≡ 0 → class ≡ 0)
+    → j < at_local o 1 (channels p d) → pack p d class j < out_channels p d o
 free-there p d zero class j low local below =
     let at : class ≡ 0 = local refl in
     let none : class * channels p d ≡ 0 = rw at (omega arith) in
@@ -127,12 +141,15 @@ pub class-zero : (p : Plan) (d n port c o : ℕ) → o ≡ 0 → class_of p d n 
 class-zero p d n port c o e = rw e (class-local p n port (c / channels p d))
 
 -- the channel that is given out is one of the output's
-pub taken-channel_few : (p : Plan) (d n : ℕ) (s : Tile) (o w : ℕ) → taken_channel p d n s o ≡ Some w → w < out_channels p d o
+pub taken-channel_few : (p : Plan) (d n : ℕ) (s : Tile) (o w : ℕ) → taken_channel p d n s o ≡ Some w
+    → w < out_channels p d o
 unfolding taken_channel winner
 taken-channel_few p d n s o w e =
-    let got = then-is (λ k. free_for p d n s o (k / link_channels p d) (k % link_channels p d)) (pick (ports p * link_channels p d) (is_candidate p d n s o) (s.allocation o)) w e in
+    let got =
+    then-is (λ k. free_for p d n s o (k / link_channels p d) (k % link_channels p d)) (pick (ports p * link_channels p d) (is_candidate p d n s o) (s.allocation o)) w e in
     let member = pick-member (ports p * link_channels p d) (is_candidate p d n s o) (s.allocation o) got.0 got.1 in
-    let inside : got.0 % link_channels p d < in_channels p d (got.0 / link_channels p d) = below-true (got.0 % link_channels p d) (in_channels p d (got.0 / link_channels p d)) (and-first (nat_lt (got.0 % link_channels p d) (in_channels p d (got.0 / link_channels p d))) (waits_for (s.stage (got.0 / link_channels p d) (got.0 % link_channels p d)) o && is_some (free_for p d n s o (got.0 / link_channels p d) (got.0 % link_channels p d))) member.1) in
+    let inside : got.0 % link_channels p d < in_channels p d (got.0 / link_channels p d) =
+    below-true (got.0 % link_channels p d) (in_channels p d (got.0 / link_channels p d)) (and-first (nat_lt (got.0 % link_channels p d) (in_channels p d (got.0 / link_channels p d))) (waits_for (s.stage (got.0 / link_channels p d) (got.0 % link_channels p d)) o && is_some (free_for p d n s o (got.0 / link_channels p d) (got.0 % link_channels p d))) member.1) in
     free-few p d s o (class_of p d n (got.0 / link_channels p d) (got.0 % link_channels p d) o) w
     (class-few p n (got.0 / link_channels p d) (got.0 % link_channels p d / channels p d) o (channel-class p d (got.0 / link_channels p d) (got.0 % link_channels p d) inside))
     (class-zero p d n (got.0 / link_channels p d) (got.0 % link_channels p d) o)

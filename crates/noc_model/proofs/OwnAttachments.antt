@@ -24,11 +24,13 @@ pub record DoAlike (v w : Driver) (j : ℕ) : Type 0 where
   pub got : (state : List ℕ) (t : ℕ) (e : Ejected) → v.got j state t e ≡ w.got j state t e
 
 -- what two functions make of the members of a filtered list
-pub flat_map-same : {A B : Type 0} (test : A → Bool) (f g : A → List B) (xs : List A) → ((x : A) → test x ≡ true → f x ≡ g x) → flat_map f (filter test xs) ≡ flat_map g (filter test xs)
+pub flat_map-same : {A B : Type 0} (test : A → Bool) (f g : A → List B) (xs : List A)
+    → ((x : A) → test x ≡ true → f x ≡ g x) → flat_map f (filter test xs) ≡ flat_map g (filter test xs)
 flat_map-same test f g [] same = refl
 flat_map-same test f g (x ∷ xs) same = go (test x) refl (flat_map-same test f g xs same)
   where
-    go : (b : Bool) → test x ≡ b → flat_map f (filter test xs) ≡ flat_map g (filter test xs) → flat_map f (filter test (x ∷ xs)) ≡ flat_map g (filter test (x ∷ xs))
+    go : (b : Bool) → test x ≡ b → flat_map f (filter test xs) ≡ flat_map g (filter test xs)
+        → flat_map f (filter test (x ∷ xs)) ≡ flat_map g (filter test (x ∷ xs))
     go true here more = rw here (ap (λ r. f x ++ r) more ∙ ap (λ r. r ++ flat_map g (filter test xs)) (same x here))
     go false out more = rw out more
 
@@ -37,7 +39,8 @@ pub record AreSame (p : Plan) (d : ℕ) (x y : Input) : Type 0 where
   pub offer : (n : ℕ) → hosts p n d ≡ true → x.offer n ≡ y.offer n
   pub hears : (n : ℕ) → hosts p n d ≡ true → x.hears n ≡ y.hears n
 
-pub events-same : (p : Plan) (d t : ℕ) (s : State) (x y : Input) → AreSame p d x y → cycle_events p d t s x ≡ cycle_events p d t s y
+pub events-same : (p : Plan) (d t : ℕ) (s : State) (x y : Input) → AreSame p d x y
+    → cycle_events p d t s x ≡ cycle_events p d t s y
 events-same p d t s x y same =
     flat_map-same (λ n. hosts p n d) (tile_events p d t s x) (tile_events p d t s y) (tabulate (tiles p) (λ n. n))
     (λ n here. ap (λ o. offer_events t n d (is_open p (s n)) o ++ drop_events t n d (s n).dropped ++ got_events t n d (x.hears n) (ejected_of (s n).ejected)) (same.offer n here)
@@ -59,14 +62,17 @@ unfolding step
 step-same p d t s x y same = λ i n. tile_step p d n t (s n) (fed-same p d n s x y same i)
 
 -- two drivers feed the domain alike
-pub driven-same : (p : Plan) (d : ℕ) (v w : Driver) (states others : ℕ → List ℕ) (t : ℕ) → ((j : ℕ) → IsOwn p d j → DoAlike v w j) → ((j : ℕ) → IsOwn p d j → states j ≡ others j)
+pub driven-same : (p : Plan) (d : ℕ) (v w : Driver) (states others : ℕ → List ℕ) (t : ℕ)
+    → ((j : ℕ) → IsOwn p d j → DoAlike v w j) → ((j : ℕ) → IsOwn p d j → states j ≡ others j)
     → AreSame p d (driven p d v states t) (driven p d w others t)
 driven-same p d v w states others t alike same = record {
   offer = λ n here. (let has = attached p n d here in let own = own-of n has in
-      ap (offer_at v states t) has.is ∙ ap (λ state. v.offer has.number state t) (same has.number own) ∙ (alike has.number own).offer (others has.number) t
+      ap (offer_at v states t) has.is ∙ ap (λ state. v.offer has.number state t) (same has.number own)
+      ∙ (alike has.number own).offer (others has.number) t
       ∙ sym (ap (offer_at w others t) has.is));
   hears = λ n here. (let has = attached p n d here in let own = own-of n has in
-      ap (hears_at v states t) has.is ∙ ap (λ state. v.hears has.number state t) (same has.number own) ∙ (alike has.number own).hears (others has.number) t
+      ap (hears_at v states t) has.is ∙ ap (λ state. v.hears has.number state t) (same has.number own)
+      ∙ (alike has.number own).hears (others has.number) t
       ∙ sym (ap (hears_at w others t) has.is));
 }
   where
@@ -74,31 +80,38 @@ driven-same p d v w states others t alike same = record {
     own-of n has = record { host = record { tile = n; domain = d }; at = has.at; own = refl }
 
 -- a driver is asked only where there is an attachment, so what a tile is fed of it is all of it
-pub driven-offer : (p : Plan) (d n : ℕ) (v : Driver) (states : ℕ → List ℕ) (t : ℕ) → (if hosts p n d then offer_at v states t (attach_of p n d) else None) ≡ offer_at v states t (attach_of p n d)
+pub driven-offer : (p : Plan) (d n : ℕ) (v : Driver) (states : ℕ → List ℕ) (t : ℕ)
+    → (if hosts p n d then offer_at v states t (attach_of p n d) else None) ≡ offer_at v states t (attach_of p n d)
 driven-offer p d n v states t = go (hosts p n d) refl
   where
-    go : (b : Bool) → hosts p n d ≡ b → (if b then offer_at v states t (attach_of p n d) else None) ≡ offer_at v states t (attach_of p n d)
+    go : (b : Bool) → hosts p n d ≡ b
+        → (if b then offer_at v states t (attach_of p n d) else None) ≡ offer_at v states t (attach_of p n d)
     go true here = refl
     go false away = sym (ap (offer_at v states t) (not-attached p n d away))
 
-pub driven-hears : (p : Plan) (d n : ℕ) (v : Driver) (states : ℕ → List ℕ) (t : ℕ) → (hosts p n d && hears_at v states t (attach_of p n d)) ≡ hears_at v states t (attach_of p n d)
+pub driven-hears : (p : Plan) (d n : ℕ) (v : Driver) (states : ℕ → List ℕ) (t : ℕ)
+    → (hosts p n d && hears_at v states t (attach_of p n d)) ≡ hears_at v states t (attach_of p n d)
 driven-hears p d n v states t = go (hosts p n d) refl
   where
-    go : (b : Bool) → hosts p n d ≡ b → (b && hears_at v states t (attach_of p n d)) ≡ hears_at v states t (attach_of p n d)
+    go : (b : Bool) → hosts p n d ≡ b
+        → (b && hears_at v states t (attach_of p n d)) ≡ hears_at v states t (attach_of p n d)
     go true here = refl
     go false away = sym (ap (hears_at v states t) (not-attached p n d away))
 
-taken-same : (v w : Driver) (j : ℕ) (state : List ℕ) (t : ℕ) (b : Bool) → DoAlike v w j → after_taken v j state t b ≡ after_taken w j state t b
+taken-same : (v w : Driver) (j : ℕ) (state : List ℕ) (t : ℕ) (b : Bool) → DoAlike v w j
+    → after_taken v j state t b ≡ after_taken w j state t b
 taken-same v w j state t true alike = alike.taken state t
 taken-same v w j state t false alike = refl
 
-got-same : (v w : Driver) (j : ℕ) (state : List ℕ) (t : ℕ) (b : Bool) (e : Option Ejected) → DoAlike v w j → after_got v j state t b e ≡ after_got w j state t b e
+got-same : (v w : Driver) (j : ℕ) (state : List ℕ) (t : ℕ) (b : Bool) (e : Option Ejected) → DoAlike v w j
+    → after_got v j state t b e ≡ after_got w j state t b e
 got-same v w j state t true (Some e) alike = alike.got state t e
 got-same v w j state t true None alike = refl
 got-same v w j state t false e alike = refl
 
 -- an attachment's state after a cycle
-after-same : (p : Plan) (d : ℕ) (v w : Driver) (t : ℕ) (s : State) (j : ℕ) (state : List ℕ) (h : Option Host) → DoAlike v w j → next_state p d v t s j state h ≡ next_state p d w t s j state h
+after-same : (p : Plan) (d : ℕ) (v w : Driver) (t : ℕ) (s : State) (j : ℕ) (state : List ℕ) (h : Option Host)
+    → DoAlike v w j → next_state p d v t s j state h ≡ next_state p d w t s j state h
 after-same p d v w t s j state None alike = refl
 after-same p d v w t s j state (Some h) alike =
     let ready : Bool = is_open p (s h.tile) in
@@ -111,13 +124,16 @@ after-same p d v w t s j state (Some h) alike =
     ∙ got-same v w j (after_taken w j state t (ready && is_some (w.offer j state t))) t (w.hears j state t) e alike
     )
 
-pub states-same : (p : Plan) (d : ℕ) (v w : Driver) (states others : ℕ → List ℕ) (t : ℕ) (s : State) → ((j : ℕ) → IsOwn p d j → DoAlike v w j) → ((j : ℕ) → IsOwn p d j → states j ≡ others j)
+pub states-same : (p : Plan) (d : ℕ) (v w : Driver) (states others : ℕ → List ℕ) (t : ℕ) (s : State)
+    → ((j : ℕ) → IsOwn p d j → DoAlike v w j) → ((j : ℕ) → IsOwn p d j → states j ≡ others j)
     → (j : ℕ) → IsOwn p d j → next_states p d v states t s j ≡ next_states p d w others t s j
 states-same p d v w states others t s alike same j own =
-    ap (λ state. next_state p d v t s j state (slice_get p.hosts j)) (same j own) ∙ after-same p d v w t s j (others j) (slice_get p.hosts j) (alike j own)
+    ap (λ state. next_state p d v t s j state (slice_get p.hosts j)) (same j own)
+    ∙ after-same p d v w t s j (others j) (slice_get p.hosts j) (alike j own)
 
 -- drivers that do the same at the domain's own attachments, in the same states there, give the same events
-pub driven_events-same : (p : Plan) (d : ℕ) (v w : Driver) (k t : ℕ) (s : State) (states others : ℕ → List ℕ) → ((j : ℕ) → IsOwn p d j → DoAlike v w j) → ((j : ℕ) → IsOwn p d j → states j ≡ others j)
+pub driven_events-same : (p : Plan) (d : ℕ) (v w : Driver) (k t : ℕ) (s : State) (states others : ℕ → List ℕ)
+    → ((j : ℕ) → IsOwn p d j → DoAlike v w j) → ((j : ℕ) → IsOwn p d j → states j ≡ others j)
     → driven_events p d v k t s states ≡ driven_events p d w k t s others
 driven_events-same p d v w zero t s states others alike same = refl
 driven_events-same p d v w (suc k) t s states others alike same =

@@ -48,7 +48,8 @@ pub record HaveOwnLists (q : Plan) (d : ℕ) (xs : List DomainPart) (hs : List H
   pub host_tiles : (n : ℕ) → hosts (with_lists q xs hs ss) n d ≡ hosts q n d
 
 -- past the slots there is none
-own-slot : (d : ℕ) (xs ys : List ℕ) → length xs ≡ length ys → ((i : ℕ) → i < length xs → (slice_index xs i == d) ≡ (slice_index ys i == d))
+own-slot : (d : ℕ) (xs ys : List ℕ) → length xs ≡ length ys
+    → ((i : ℕ) → i < length xs → (slice_index xs i == d) ≡ (slice_index ys i == d))
     → (i : ℕ) → (slice_index xs i == d) ≡ (slice_index ys i == d)
 own-slot d xs ys count own i = go order
   where
@@ -69,111 +70,152 @@ own-lists p q d e = record {
 
 -- ---- what a step reads
 
-owner-own : (q : Plan) (d : ℕ) (xs : List DomainPart) (hs : List Host) (ss : List ℕ) (n o : ℕ) (t : ℤ) → HaveOwnLists q d xs hs ss → (owner (with_lists q xs hs ss) n o t == d) ≡ (owner q n o t == d)
+owner-own : (q : Plan) (d : ℕ) (xs : List DomainPart) (hs : List Host) (ss : List ℕ) (n o : ℕ) (t : ℤ)
+    → HaveOwnLists q d xs hs ss → (owner (with_lists q xs hs ss) n o t == d) ≡ (owner q n o t == d)
 unfolding owner wave
 owner-own q d xs hs ss n o t e = go (way_of o)
   where
-    go : (w : Way) → (slice_index ss (slot_of (with_lists q xs hs ss) n t w) == d) ≡ (slice_index q.slots (slot_of q n t w) == d)
+    go : (w : Way)
+        → (slice_index ss (slot_of (with_lists q xs hs ss) n t w) == d) ≡ (slice_index q.slots (slot_of q n t w) == d)
     go Local = e.own_slots 0
-    go (Plus i) = e.own_slots (slot_of (with_lists q xs hs ss) n t (Plus i)) ∙ ap (λ k. slice_index q.slots (modulo (t -ℤ pos (hop q * wave q n)) k) == d) e.slot_count
-    go (Minus i) = e.own_slots (slot_of (with_lists q xs hs ss) n t (Minus i)) ∙ ap (λ k. slice_index q.slots (modulo (t +ℤ pos (hop q * wave q n)) k) == d) e.slot_count
+    go (Plus i) =
+        e.own_slots (slot_of (with_lists q xs hs ss) n t (Plus i))
+        ∙ ap (λ k. slice_index q.slots (modulo (t -ℤ pos (hop q * wave q n)) k) == d) e.slot_count
+    go (Minus i) =
+        e.own_slots (slot_of (with_lists q xs hs ss) n t (Minus i))
+        ∙ ap (λ k. slice_index q.slots (modulo (t +ℤ pos (hop q * wave q n)) k) == d) e.slot_count
 
-takes-own : (q : Plan) (d : ℕ) (xs : List DomainPart) (hs : List Host) (ss : List ℕ) (n : ℕ) (t : ℤ) (s : Tile) (i : TileIn) (o w : ℕ) → HaveOwnLists q d xs hs ss → takes (with_lists q xs hs ss) d n t s i o w ≡ takes q d n t s i o w
+takes-own : (q : Plan) (d : ℕ) (xs : List DomainPart) (hs : List Host) (ss : List ℕ) (n : ℕ) (t : ℤ) (s : Tile)
+    (i : TileIn) (o w : ℕ) → HaveOwnLists q d xs hs ss
+    → takes (with_lists q xs hs ss) d n t s i o w ≡ takes q d n t s i o w
 unfolding takes
-takes-own q d xs hs ss n t s i o w e = ap (λ b. at_local o (is_none s.ejected || i.hears) (b && nat_lt 0 (s.credits o w))) (owner-own q d xs hs ss n o t e)
+takes-own q d xs hs ss n t s i o w e =
+    ap (λ b. at_local o (is_none s.ejected || i.hears) (b && nat_lt 0 (s.credits o w))) (owner-own q d xs hs ss n o t e)
 
-class-own : (q : Plan) (d : ℕ) (xs : List DomainPart) (hs : List Host) (ss : List ℕ) (n a b c : ℕ) → class_after (with_lists q xs hs ss) n a b c ≡ class_after q n a b c
+class-own : (q : Plan) (d : ℕ) (xs : List DomainPart) (hs : List Host) (ss : List ℕ) (n a b c : ℕ)
+    → class_after (with_lists q xs hs ss) n a b c ≡ class_after q n a b c
 unfolding class_after is_wrap side coord
 class-own q d xs hs ss n a b c = refl
 
-free-own : (q : Plan) (d : ℕ) (xs : List DomainPart) (hs : List Host) (ss : List ℕ) (n : ℕ) (s : Tile) (o port c : ℕ) → HaveOwnLists q d xs hs ss → free_for (with_lists q xs hs ss) d n s o port c ≡ free_for q d n s o port c
+free-own : (q : Plan) (d : ℕ) (xs : List DomainPart) (hs : List Host) (ss : List ℕ) (n : ℕ) (s : Tile) (o port c : ℕ)
+    → HaveOwnLists q d xs hs ss → free_for (with_lists q xs hs ss) d n s o port c ≡ free_for q d n s o port c
 free-own q d xs hs ss n s o port c e =
     ap (λ k. option_map (λ j. class_after (with_lists q xs hs ss) n port (c / k) o * k + j) (least (at_local o 1 k) (λ j. not (s.held o (class_after (with_lists q xs hs ss) n port (c / k) o * k + j))))) e.channel_count
     ∙ ap (λ k. option_map (λ j. k * channels q d + j) (least (at_local o 1 (channels q d)) (λ j. not (s.held o (k * channels q d + j))))) (class-own q d xs hs ss n port (c / channels q d) o)
 
-winner-own : (q : Plan) (d : ℕ) (xs : List DomainPart) (hs : List Host) (ss : List ℕ) (n : ℕ) (s : Tile) (o : ℕ) → HaveOwnLists q d xs hs ss → winner (with_lists q xs hs ss) d n s o ≡ winner q d n s o
+winner-own : (q : Plan) (d : ℕ) (xs : List DomainPart) (hs : List Host) (ss : List ℕ) (n : ℕ) (s : Tile) (o : ℕ)
+    → HaveOwnLists q d xs hs ss → winner (with_lists q xs hs ss) d n s o ≡ winner q d n s o
 unfolding winner
 winner-own q d xs hs ss n s o e = λ i. pick (ports q * (classes q * e.channel_count i)) (λ k.
     nat_lt (k % (classes q * e.channel_count i)) (at_local (k / (classes q * e.channel_count i)) (e.channel_count i) (classes q * e.channel_count i))
     && (waits_for (s.stage (k / (classes q * e.channel_count i)) (k % (classes q * e.channel_count i))) o
     && is_some (free-own q d xs hs ss n s o (k / (classes q * e.channel_count i)) (k % (classes q * e.channel_count i)) e i))) (s.allocation o)
 
-taken-own : (q : Plan) (d : ℕ) (xs : List DomainPart) (hs : List Host) (ss : List ℕ) (n : ℕ) (s : Tile) (o : ℕ) → HaveOwnLists q d xs hs ss → taken_channel (with_lists q xs hs ss) d n s o ≡ taken_channel q d n s o
+taken-own : (q : Plan) (d : ℕ) (xs : List DomainPart) (hs : List Host) (ss : List ℕ) (n : ℕ) (s : Tile) (o : ℕ)
+    → HaveOwnLists q d xs hs ss → taken_channel (with_lists q xs hs ss) d n s o ≡ taken_channel q d n s o
 unfolding taken_channel
-taken-own q d xs hs ss n s o e = λ i. option_and_then (λ k. free-own q d xs hs ss n s o (k / (classes q * e.channel_count i)) (k % (classes q * e.channel_count i)) e i) (winner-own q d xs hs ss n s o e i)
+taken-own q d xs hs ss n s o e =
+    λ i. option_and_then (λ k. free-own q d xs hs ss n s o (k / (classes q * e.channel_count i)) (k % (classes q * e.channel_count i)) e i) (winner-own q d xs hs ss n s o e i)
 
-ready-own : (q : Plan) (d : ℕ) (xs : List DomainPart) (hs : List Host) (ss : List ℕ) (n : ℕ) (t : ℤ) (s : Tile) (i : TileIn) (fs : List Flit) (st : Stage) → HaveOwnLists q d xs hs ss → is_ready_at (with_lists q xs hs ss) d n t s i fs st ≡ is_ready_at q d n t s i fs st
+ready-own : (q : Plan) (d : ℕ) (xs : List DomainPart) (hs : List Host) (ss : List ℕ) (n : ℕ) (t : ℤ) (s : Tile)
+    (i : TileIn) (fs : List Flit) (st : Stage) → HaveOwnLists q d xs hs ss
+    → is_ready_at (with_lists q xs hs ss) d n t s i fs st ≡ is_ready_at q d n t s i fs st
 ready-own q d xs hs ss n t s i fs Idle e = refl
 ready-own q d xs hs ss n t s i fs (Routed o) e = refl
 ready-own q d xs hs ss n t s i [] (Active o w) e = refl
 ready-own q d xs hs ss n t s i (f ∷ fs) (Active o w) e = takes-own q d xs hs ss n t s i o w e
 
-asked-own : (q : Plan) (d : ℕ) (xs : List DomainPart) (hs : List Host) (ss : List ℕ) (n : ℕ) (t : ℤ) (s : Tile) (i : TileIn) (port : ℕ) → HaveOwnLists q d xs hs ss → asked (with_lists q xs hs ss) d n t s i port ≡ asked q d n t s i port
+asked-own : (q : Plan) (d : ℕ) (xs : List DomainPart) (hs : List Host) (ss : List ℕ) (n : ℕ) (t : ℤ) (s : Tile)
+    (i : TileIn) (port : ℕ) → HaveOwnLists q d xs hs ss
+    → asked (with_lists q xs hs ss) d n t s i port ≡ asked q d n t s i port
 unfolding asked
 asked-own q d xs hs ss n t s i port e = λ j. option_and_then (λ c. grant_at c (s.stage port c))
     (pick (at_local port (e.channel_count j) (classes q * e.channel_count j)) (λ c. ready-own q d xs hs ss n t s i (s.queue port c) (s.stage port c) e j) (s.turn port))
 
-chosen-own : (q : Plan) (d : ℕ) (xs : List DomainPart) (hs : List Host) (ss : List ℕ) (n : ℕ) (t : ℤ) (s : Tile) (i : TileIn) (o : ℕ) → HaveOwnLists q d xs hs ss → chosen (with_lists q xs hs ss) d n t s i o ≡ chosen q d n t s i o
+chosen-own : (q : Plan) (d : ℕ) (xs : List DomainPart) (hs : List Host) (ss : List ℕ) (n : ℕ) (t : ℤ) (s : Tile)
+    (i : TileIn) (o : ℕ) → HaveOwnLists q d xs hs ss → chosen (with_lists q xs hs ss) d n t s i o ≡ chosen q d n t s i o
 unfolding chosen
-chosen-own q d xs hs ss n t s i o e = λ j. pick (ports q) (λ port. asks_for (asked-own q d xs hs ss n t s i port e j) o) (s.switch o)
+chosen-own q d xs hs ss n t s i o e =
+    λ j. pick (ports q) (λ port. asks_for (asked-own q d xs hs ss n t s i port e j) o) (s.switch o)
 
-grant-own : (q : Plan) (d : ℕ) (xs : List DomainPart) (hs : List Host) (ss : List ℕ) (n : ℕ) (t : ℤ) (s : Tile) (i : TileIn) (port : ℕ) → HaveOwnLists q d xs hs ss → grant (with_lists q xs hs ss) d n t s i port ≡ grant q d n t s i port
+grant-own : (q : Plan) (d : ℕ) (xs : List DomainPart) (hs : List Host) (ss : List ℕ) (n : ℕ) (t : ℤ) (s : Tile)
+    (i : TileIn) (port : ℕ) → HaveOwnLists q d xs hs ss
+    → grant (with_lists q xs hs ss) d n t s i port ≡ grant q d n t s i port
 unfolding grant
-grant-own q d xs hs ss n t s i port e = λ j. option_and_then (λ g. granted_to (chosen-own q d xs hs ss n t s i g.out e j) port g) (asked-own q d xs hs ss n t s i port e j)
+grant-own q d xs hs ss n t s i port e =
+    λ j. option_and_then (λ g. granted_to (chosen-own q d xs hs ss n t s i g.out e j) port g) (asked-own q d xs hs ss n t s i port e j)
 
-leaves-own : (q : Plan) (d : ℕ) (xs : List DomainPart) (hs : List Host) (ss : List ℕ) (n : ℕ) (t : ℤ) (s : Tile) (i : TileIn) (port c : ℕ) → HaveOwnLists q d xs hs ss → leaves (with_lists q xs hs ss) d n t s i port c ≡ leaves q d n t s i port c
+leaves-own : (q : Plan) (d : ℕ) (xs : List DomainPart) (hs : List Host) (ss : List ℕ) (n : ℕ) (t : ℤ) (s : Tile)
+    (i : TileIn) (port c : ℕ) → HaveOwnLists q d xs hs ss
+    → leaves (with_lists q xs hs ss) d n t s i port c ≡ leaves q d n t s i port c
 unfolding leaves
 leaves-own q d xs hs ss n t s i port c e = λ j. is_channel (grant-own q d xs hs ss n t s i port e j) c
 
-sent-own : (q : Plan) (d : ℕ) (xs : List DomainPart) (hs : List Host) (ss : List ℕ) (n : ℕ) (t : ℤ) (s : Tile) (i : TileIn) (o : ℕ) → HaveOwnLists q d xs hs ss → sent (with_lists q xs hs ss) d n t s i o ≡ sent q d n t s i o
+sent-own : (q : Plan) (d : ℕ) (xs : List DomainPart) (hs : List Host) (ss : List ℕ) (n : ℕ) (t : ℤ) (s : Tile)
+    (i : TileIn) (o : ℕ) → HaveOwnLists q d xs hs ss → sent (with_lists q xs hs ss) d n t s i o ≡ sent q d n t s i o
 unfolding sent
-sent-own q d xs hs ss n t s i o e = λ j. option_and_then (λ port. option_and_then (λ g. with_channel g.to (front (s.queue port g.channel))) (grant-own q d xs hs ss n t s i port e j)) (chosen-own q d xs hs ss n t s i o e j)
+sent-own q d xs hs ss n t s i o e =
+    λ j. option_and_then (λ port. option_and_then (λ g. with_channel g.to (front (s.queue port g.channel))) (grant-own q d xs hs ss n t s i port e j)) (chosen-own q d xs hs ss n t s i o e j)
 
-stage-own : (q : Plan) (d : ℕ) (xs : List DomainPart) (hs : List Host) (ss : List ℕ) (n : ℕ) (t : ℤ) (s : Tile) (i : TileIn) (port c : ℕ) (st : Stage) → HaveOwnLists q d xs hs ss → next_stage (with_lists q xs hs ss) d n t s i port c st ≡ next_stage q d n t s i port c st
+stage-own : (q : Plan) (d : ℕ) (xs : List DomainPart) (hs : List Host) (ss : List ℕ) (n : ℕ) (t : ℤ) (s : Tile)
+    (i : TileIn) (port c : ℕ) (st : Stage) → HaveOwnLists q d xs hs ss
+    → next_stage (with_lists q xs hs ss) d n t s i port c st ≡ next_stage q d n t s i port c st
 unfolding route
 stage-own q d xs hs ss n t s i port c Idle e = refl
-stage-own q d xs hs ss n t s i port c (Routed o) e = λ j. activated (is_place (winner-own q d xs hs ss n s o e j) (port * (classes q * e.channel_count j) + c)) o (taken-own q d xs hs ss n s o e j)
-stage-own q d xs hs ss n t s i port c (Active o w) e = λ j. if leaves-own q d xs hs ss n t s i port c e j && is_tail (front (s.queue port c)) then Idle else Active o w
+stage-own q d xs hs ss n t s i port c (Routed o) e =
+    λ j. activated (is_place (winner-own q d xs hs ss n s o e j) (port * (classes q * e.channel_count j) + c)) o (taken-own q d xs hs ss n s o e j)
+stage-own q d xs hs ss n t s i port c (Active o w) e =
+    λ j. if leaves-own q d xs hs ss n t s i port c e j && is_tail (front (s.queue port c)) then Idle else Active o w
 
 -- ---- the attachment
 
-tile-own : (q : Plan) (d : ℕ) (xs : List DomainPart) (hs : List Host) (ss : List ℕ) (o : Option Range) → HaveOwnLists q d xs hs ss → hosted_tile (with_lists q xs hs ss) d o ≡ hosted_tile q d o
+tile-own : (q : Plan) (d : ℕ) (xs : List DomainPart) (hs : List Host) (ss : List ℕ) (o : Option Range)
+    → HaveOwnLists q d xs hs ss → hosted_tile (with_lists q xs hs ss) d o ≡ hosted_tile q d o
 tile-own q d xs hs ss None e = refl
 tile-own q d xs hs ss (Some x) e = λ j. if e.host_tiles x.tile j then Some x.tile else None
 
-goes-own : (q : Plan) (d : ℕ) (xs : List DomainPart) (hs : List Host) (ss : List ℕ) (k : Packet) (x : Offer) → HaveOwnLists q d xs hs ss → goes_to (with_lists q xs hs ss) d k x ≡ goes_to q d k x
+goes-own : (q : Plan) (d : ℕ) (xs : List DomainPart) (hs : List Host) (ss : List ℕ) (k : Packet) (x : Offer)
+    → HaveOwnLists q d xs hs ss → goes_to (with_lists q xs hs ss) d k x ≡ goes_to q d k x
 goes-own q d xs hs ss Between x e = tile-own q d xs hs ss (range_of q x.address) e
 goes-own q d xs hs ss (Passing dest) x e = refl
 goes-own q d xs hs ss Dropping x e = refl
 
-entry-own : (q : Plan) (d : ℕ) (xs : List DomainPart) (hs : List Host) (ss : List ℕ) (k : Packet) (word : Option Offer) → HaveOwnLists q d xs hs ss → entry (with_lists q xs hs ss) d k word ≡ entry q d k word
+entry-own : (q : Plan) (d : ℕ) (xs : List DomainPart) (hs : List Host) (ss : List ℕ) (k : Packet) (word : Option Offer)
+    → HaveOwnLists q d xs hs ss → entry (with_lists q xs hs ss) d k word ≡ entry q d k word
 entry-own q d xs hs ss k None e = refl
 entry-own q d xs hs ss k (Some x) e = λ j. entry_of k x (goes-own q d xs hs ss k x e j)
 
-packet-own : (q : Plan) (d : ℕ) (xs : List DomainPart) (hs : List Host) (ss : List ℕ) (k : Packet) (word : Option Offer) → HaveOwnLists q d xs hs ss → next_packet (with_lists q xs hs ss) d k word ≡ next_packet q d k word
+packet-own : (q : Plan) (d : ℕ) (xs : List DomainPart) (hs : List Host) (ss : List ℕ) (k : Packet) (word : Option Offer)
+    → HaveOwnLists q d xs hs ss → next_packet (with_lists q xs hs ss) d k word ≡ next_packet q d k word
 packet-own q d xs hs ss k None e = refl
 packet-own q d xs hs ss k (Some x) e = λ j. if x.last then Between else packet_for (goes-own q d xs hs ss k x e j)
 
-dropped-own : (q : Plan) (d : ℕ) (xs : List DomainPart) (hs : List Host) (ss : List ℕ) (k : Packet) (word : Option Offer) → HaveOwnLists q d xs hs ss → is_dropped (with_lists q xs hs ss) d k word ≡ is_dropped q d k word
+dropped-own : (q : Plan) (d : ℕ) (xs : List DomainPart) (hs : List Host) (ss : List ℕ) (k : Packet)
+    (word : Option Offer) → HaveOwnLists q d xs hs ss
+    → is_dropped (with_lists q xs hs ss) d k word ≡ is_dropped q d k word
 dropped-own q d xs hs ss k None e = refl
 dropped-own q d xs hs ss k (Some x) e = λ j. is_none (goes-own q d xs hs ss k x e j)
 
-current-own : (q : Plan) (d : ℕ) (xs : List DomainPart) (hs : List Host) (ss : List ℕ) (current : ℕ) (f : Option Flit) → HaveOwnLists q d xs hs ss → next_current (with_lists q xs hs ss) d current f ≡ next_current q d current f
+current-own : (q : Plan) (d : ℕ) (xs : List DomainPart) (hs : List Host) (ss : List ℕ) (current : ℕ) (f : Option Flit)
+    → HaveOwnLists q d xs hs ss → next_current (with_lists q xs hs ss) d current f ≡ next_current q d current f
 current-own q d xs hs ss current None e = refl
 current-own q d xs hs ss current (Some f) e = λ j. if f.tail then (current + 1) % e.channel_count j else current
 
-word-own : (q : Plan) (d : ℕ) (xs : List DomainPart) (hs : List Host) (ss : List ℕ) (s : Tile) (i : TileIn) → word_in (with_lists q xs hs ss) s i ≡ word_in q s i
+word-own : (q : Plan) (d : ℕ) (xs : List DomainPart) (hs : List Host) (ss : List ℕ) (s : Tile) (i : TileIn)
+    → word_in (with_lists q xs hs ss) s i ≡ word_in q s i
 unfolding word_in is_open
 word-own q d xs hs ss s i = refl
 
-comes-own : (q : Plan) (d : ℕ) (xs : List DomainPart) (hs : List Host) (ss : List ℕ) (s : Tile) (i : TileIn) (port c : ℕ) → HaveOwnLists q d xs hs ss → comes_in (with_lists q xs hs ss) d s i port c ≡ comes_in q d s i port c
+comes-own : (q : Plan) (d : ℕ) (xs : List DomainPart) (hs : List Host) (ss : List ℕ) (s : Tile) (i : TileIn)
+    (port c : ℕ) → HaveOwnLists q d xs hs ss → comes_in (with_lists q xs hs ss) d s i port c ≡ comes_in q d s i port c
 comes-own q d xs hs ss s i zero c e =
     λ j. if s.current == c then option_to_list ((ap (entry (with_lists q xs hs ss) d s.packet) (word-own q d xs hs ss s i) ∙ entry-own q d xs hs ss s.packet (word_in q s i) e) j) else []
 comes-own q d xs hs ss s i (suc port) c e = refl
 
 -- ---- the step of a tile
 
-step-lists : (q : Plan) (d : ℕ) (xs : List DomainPart) (hs : List Host) (ss : List ℕ) (n : ℕ) (t : ℤ) (s : Tile) (i : TileIn) → HaveOwnLists q d xs hs ss → tile_step (with_lists q xs hs ss) d n t s i ≡ tile_step q d n t s i
+step-lists : (q : Plan) (d : ℕ) (xs : List DomainPart) (hs : List Host) (ss : List ℕ) (n : ℕ) (t : ℤ) (s : Tile)
+    (i : TileIn) → HaveOwnLists q d xs hs ss → tile_step (with_lists q xs hs ss) d n t s i ≡ tile_step q d n t s i
 unfolding tile_step
 step-lists q d xs hs ss n t s i e = λ j. record {
   queue = λ port c. drop (one_if (leaves-own q d xs hs ss n t s i port c e j)) (s.queue port c) ++ comes-own q d xs hs ss s i port c e j;
@@ -193,16 +235,21 @@ step-lists q d xs hs ss n t s i e = λ j. record {
 }
 
 -- a tile's step reads the own part alone
-pub tile_step-own : (p q : Plan) (d n : ℕ) (t : ℤ) (s : Tile) (i : TileIn) → HaveOwnPart p q d → tile_step p d n t s i ≡ tile_step q d n t s i
-tile_step-own p q d n t s i e = ap (λ r. tile_step r d n t s i) (same-plan p q d e) ∙ step-lists q d p.domains p.hosts p.slots n t s i (own-lists p q d e)
+pub tile_step-own : (p q : Plan) (d n : ℕ) (t : ℤ) (s : Tile) (i : TileIn) → HaveOwnPart p q d
+    → tile_step p d n t s i ≡ tile_step q d n t s i
+tile_step-own p q d n t s i e =
+    ap (λ r. tile_step r d n t s i) (same-plan p q d e)
+    ∙ step-lists q d p.domains p.hosts p.slots n t s i (own-lists p q d e)
 
 -- ---- runs
 
-arrival-lists : (q : Plan) (d : ℕ) (xs : List DomainPart) (hs : List Host) (ss : List ℕ) (s : State) (n port : ℕ) → arrival (with_lists q xs hs ss) s n port ≡ arrival q s n port
+arrival-lists : (q : Plan) (d : ℕ) (xs : List DomainPart) (hs : List Host) (ss : List ℕ) (s : State) (n port : ℕ)
+    → arrival (with_lists q xs hs ss) s n port ≡ arrival q s n port
 unfolding arrival neighbour side coord
 arrival-lists q d xs hs ss s n port = refl
 
-return-lists : (q : Plan) (d : ℕ) (xs : List DomainPart) (hs : List Host) (ss : List ℕ) (s : State) (n port c : ℕ) → return_of (with_lists q xs hs ss) s n port c ≡ return_of q s n port c
+return-lists : (q : Plan) (d : ℕ) (xs : List DomainPart) (hs : List Host) (ss : List ℕ) (s : State) (n port c : ℕ)
+    → return_of (with_lists q xs hs ss) s n port c ≡ return_of q s n port c
 unfolding return_of neighbour side coord
 return-lists q d xs hs ss s n port c = refl
 
@@ -214,23 +261,31 @@ fed-own p q d s x n e = λ j. record {
   hears = e.host_tiles n j && x.hears n;
 }
 
-pub step-own : (p q : Plan) (d : ℕ) (t : ℤ) (s : State) (x : Input) → HaveOwnPart p q d → step p d t s x ≡ step q d t s x
+pub step-own : (p q : Plan) (d : ℕ) (t : ℤ) (s : State) (x : Input) → HaveOwnPart p q d
+    → step p d t s x ≡ step q d t s x
 unfolding step
-step-own p q d t s x e = λ j n. (ap (tile_step p d n t (s n)) (fed-own p q d s x n e) ∙ tile_step-own p q d n t (s n) (fed q d s x n) e) j
+step-own p q d t s x e =
+    λ j n. (ap (tile_step p d n t (s n)) (fed-own p q d s x n e) ∙ tile_step-own p q d n t (s n) (fed q d s x n) e) j
 
 start-own : (p q : Plan) (d : ℕ) → HaveOwnPart p q d → start p ≡ start q
 start-own p q d e = λ j n. start_tile (same-plan p q d e j)
 
-from-own : (p q : Plan) (d t : ℕ) (s : State) (xs : List Input) → HaveOwnPart p q d → state_from p d t s xs ≡ state_from q d t s xs
+from-own : (p q : Plan) (d t : ℕ) (s : State) (xs : List Input) → HaveOwnPart p q d
+    → state_from p d t s xs ≡ state_from q d t s xs
 from-own p q d t s [] e = refl
-from-own p q d t s (x ∷ xs) e = from-own p q d (suc t) (step p d (pos t) s x) xs e ∙ ap (λ next. state_from q d (suc t) next xs) (step-own p q d (pos t) s x e)
+from-own p q d t s (x ∷ xs) e =
+    from-own p q d (suc t) (step p d (pos t) s x) xs e
+    ∙ ap (λ next. state_from q d (suc t) next xs) (step-own p q d (pos t) s x e)
 
 pub run-own : (p q : Plan) (d : ℕ) (xs : List Input) → HaveOwnPart p q d → run p d xs ≡ run q d xs
 run-own p q d xs e = from-own p q d 0 (start p) xs e ∙ ap (λ s. state_from q d 0 s xs) (start-own p q d e)
 
-pub after-own : (p q : Plan) (d : ℕ) (xs : ℕ → Input) (t : ℕ) → HaveOwnPart p q d → state_after p d xs t ≡ state_after q d xs t
+pub after-own : (p q : Plan) (d : ℕ) (xs : ℕ → Input) (t : ℕ) → HaveOwnPart p q d
+    → state_after p d xs t ≡ state_after q d xs t
 after-own p q d xs zero e = start-own p q d e
-after-own p q d xs (suc t) e = step-own p q d (pos t) (state_after p d xs t) (xs t) e ∙ ap (λ s. step q d (pos t) s (xs t)) (after-own p q d xs t e)
+after-own p q d xs (suc t) e =
+    step-own p q d (pos t) (state_after p d xs t) (xs t) e
+    ∙ ap (λ s. step q d (pos t) s (xs t)) (after-own p q d xs t e)
 
 -- ---- what is seen of them
 
@@ -246,16 +301,19 @@ outs-own p q d xs e =
 hosts-own : (p q : Plan) (d : ℕ) → HaveOwnPart p q d → hosts_of p d ≡ hosts_of q d
 hosts-own p q d e = λ j. filter (λ n. e.host_tiles n j) (tabulate (product (e.dims j)) (λ n. n))
 
-cycle-own : (p q : Plan) (d t : ℕ) (s : State) (x : Input) → HaveOwnPart p q d → cycle_events p d t s x ≡ cycle_events q d t s x
+cycle-own : (p q : Plan) (d t : ℕ) (s : State) (x : Input) → HaveOwnPart p q d
+    → cycle_events p d t s x ≡ cycle_events q d t s x
 cycle-own p q d t s x e = λ j. flat_map (λ n. offer_events t n d (open-own p q d (s n) e j) (x.offer n)
     ++ drop_events t n d (s n).dropped ++ got_events t n d (x.hears n) (ejected_of (s n).ejected)) (hosts-own p q d e j)
 
-from-events : (p q : Plan) (d t : ℕ) (s : State) (xs : List Input) → HaveOwnPart p q d → events_from p d t s xs ≡ events_from q d t s xs
+from-events : (p q : Plan) (d t : ℕ) (s : State) (xs : List Input) → HaveOwnPart p q d
+    → events_from p d t s xs ≡ events_from q d t s xs
 from-events p q d t s [] e = refl
 from-events p q d t s (x ∷ xs) e =
     ap (λ es. es ++ events_from p d (suc t) (step p d (pos t) s x) xs) (cycle-own p q d t s x e)
     ∙ ap (λ es. cycle_events q d t s x ++ es)
     (from-events p q d (suc t) (step p d (pos t) s x) xs e ∙ ap (λ next. events_from q d (suc t) next xs) (step-own p q d (pos t) s x e))
 
-pub events-own : (p q : Plan) (d : ℕ) (xs : List Input) → HaveOwnPart p q d → events_from p d 0 (start p) xs ≡ events_from q d 0 (start q) xs
+pub events-own : (p q : Plan) (d : ℕ) (xs : List Input) → HaveOwnPart p q d
+    → events_from p d 0 (start p) xs ≡ events_from q d 0 (start q) xs
 events-own p q d xs e = from-events p q d 0 (start p) xs e ∙ ap (λ s. events_from q d 0 s xs) (start-own p q d e)

@@ -44,10 +44,12 @@ tile_in-below [] (c ∷ cs) h = absurd h
 tile_in-below (k ∷ ks) [] h = absurd h
 tile_in-below (k ∷ ks) (c ∷ cs) h =
     let rest = tile_in-below ks cs h.1 in
-    let up : c + k * tile_in ks cs < k * product ks = rw (add_comm c (k * tile_in ks cs), mul_comm k (tile_in ks cs)) (mul-add-lt (tile_in ks cs) k c (product ks) rest h.0) in
+    let up : c + k * tile_in ks cs < k * product ks =
+    rw (add_comm c (k * tile_in ks cs), mul_comm k (tile_in ks cs)) (mul-add-lt (tile_in ks cs) k c (product ks) rest h.0) in
     up
 
-pub moved-below : (ks : List ℕ) (n i y : ℕ) → AreSides ks → i < length ks → y < slice_index ks i → tile_in ks (slice_set (coords_in ks n) i y) < product ks
+pub moved-below : (ks : List ℕ) (n i y : ℕ) → AreSides ks → i < length ks → y < slice_index ks i
+    → tile_in ks (slice_set (coords_in ks n) i y) < product ks
 moved-below ks n i y sides there below =
     tile_in-below ks (slice_set (coords_in ks n) i y)
     (within-set ks (coords_in ks n) i y (within-coords_in ks n (positive ks sides)) (rw (get_or_default ks i 1 0 there) below))

@@ -10,14 +10,16 @@ use Rattle.noc_model.proofs.Coords.{in-sides}
 use Rattle.noc_model.proofs.Wave.{way_of-port_of, port_of-way_of}
 
 -- odd ports are plus, and even ones minus
-pub way-by : (port : ℕ) → port ≢ 0 → way_of port ≡ (if port % 2 == 1 then Plus ((port - 1) / 2) else Minus ((port - 1) / 2))
+pub way-by : (port : ℕ) → port ≢ 0
+    → way_of port ≡ (if port % 2 == 1 then Plus ((port - 1) / 2) else Minus ((port - 1) / 2))
 way-by zero link = absurd (link refl)
 way-by (suc n) link = go (n % 2) refl (omega arith)
   where
     one_less : suc n - 1 ≡ n
     one_less = omega arith
 
-    go : (r : ℕ) → n % 2 ≡ r → r < 2 → (if r == 0 then Plus (n / 2) else Minus (n / 2)) ≡ (if suc n % 2 == 1 then Plus ((suc n - 1) / 2) else Minus ((suc n - 1) / 2))
+    go : (r : ℕ) → n % 2 ≡ r → r < 2
+        → (if r == 0 then Plus (n / 2) else Minus (n / 2)) ≡ (if suc n % 2 == 1 then Plus ((suc n - 1) / 2) else Minus ((suc n - 1) / 2))
     go zero e h = let odd : suc n % 2 ≡ 1 = omega arith in rw (odd, one_less) refl
     go (suc zero) e h = let even : suc n % 2 ≡ 0 = omega arith in rw (even, one_less) refl
     go (suc (suc r)) e h = absurd (omega arith)
@@ -61,7 +63,8 @@ link-port p n (suc m) h = λ e. omega arith
 pub linked-port : (p : Plan) (n port m : ℕ) → neighbour p n port ≡ Some m → port ≢ 0
 linked-port p n port m e = link-port p n port (rw e refl)
 
-link-side : (p : Plan) (n : ℕ) (w : Way) (i : ℕ) (b : Bool) → w ≡ (if b then Plus i else Minus i) → has_link p n w ≡ true → 1 < side p i
+link-side : (p : Plan) (n : ℕ) (w : Way) (i : ℕ) (b : Bool) → w ≡ (if b then Plus i else Minus i)
+    → has_link p n w ≡ true → 1 < side p i
 link-side p n w i true e h = let l = rw e at h in grind (arith, nat_tests)
 link-side p n w i false e h = let l = rw e at h in grind (arith, nat_tests)
 

@@ -34,12 +34,14 @@ reached-start p d t some = record {
   unattached = λ n inside away. record { packet = refl; current = refl; dropped = refl; ejected = refl; local = λ c. refl };
 }
 
-held-next : (p : Plan) (d : ℕ) (t : ℤ) (s : State) (x : Input) → ((m : ℕ) → IsSoundTile p d m t (s m)) → IsHeldState p d s → IsHeldState p d (step p d t s x)
+held-next : (p : Plan) (d : ℕ) (t : ℤ) (s : State) (x : Input) → ((m : ℕ) → IsSoundTile p d m t (s m))
+    → IsHeldState p d s → IsHeldState p d (step p d t s x)
 unfolding step
 held-next p d t s x sound held n = held-step p d n t (s n) (fed p d s x n) (held n) (sound n).unlinked
 
 -- each step keeps it
-pub reached-step : (p : Plan) (d : ℕ) (t : ℤ) (s : State) (x : Input) → IsSound p → IsReached p d t s → IsReached p d (t +ℤ pos 1) (step p d t s x)
+pub reached-step : (p : Plan) (d : ℕ) (t : ℤ) (s : State) (x : Input) → IsSound p → IsReached p d t s
+    → IsReached p d (t +ℤ pos 1) (step p d t s x)
 unfolding step
 reached-step p d t s x sound reached = record {
   sound = tiles-step p d t s x (positive p.dims sound.sides) reached.sound;
@@ -48,26 +50,30 @@ reached-step p d t s x sound reached = record {
   unattached = λ n inside away. unattached-step p d n t (s n) (fed p d s x n) (fed-nothing p d n s x away) (reached.away n inside away) (reached.unattached n inside away);
 }
 
-pub reached-next : (p : Plan) (d t : ℕ) (s : State) (x : Input) → IsSound p → IsReached p d (pos t) s → IsReached p d (pos (suc t)) (step p d (pos t) s x)
+pub reached-next : (p : Plan) (d t : ℕ) (s : State) (x : Input) → IsSound p → IsReached p d (pos t) s
+    → IsReached p d (pos (suc t)) (step p d (pos t) s x)
 reached-next p d t s x sound reached =
     let next : pos t +ℤ pos 1 ≡ pos (suc t) = omega (arith, ints) in
     subst (λ z. IsReached p d z (step p d (pos t) s x)) next (reached-step p d (pos t) s x sound reached)
 
-pub reached-from : (p : Plan) (d t : ℕ) (s : State) (xs : List Input) → IsSound p → IsReached p d (pos t) s → IsReached p d (pos (t + length xs)) (state_from p d t s xs)
+pub reached-from : (p : Plan) (d t : ℕ) (s : State) (xs : List Input) → IsSound p → IsReached p d (pos t) s
+    → IsReached p d (pos (t + length xs)) (state_from p d t s xs)
 reached-from p d t s [] sound reached = let e : t + 0 ≡ t = omega arith in rw e reached
 reached-from p d t s (x ∷ xs) sound reached =
     let e : t + suc (length xs) ≡ suc t + length xs = omega arith in
     rw e (reached-from p d (suc t) (step p d (pos t) s x) xs sound (reached-next p d t s x sound reached))
 
 -- it holds in every state of every run
-pub run-reached : (p : Plan) (d : ℕ) (xs : List Input) → IsSound p → d < length p.domains → IsReached p d (pos (length xs)) (run p d xs)
+pub run-reached : (p : Plan) (d : ℕ) (xs : List Input) → IsSound p → d < length p.domains
+    → IsReached p d (pos (length xs)) (run p d xs)
 run-reached p d xs sound there =
     let from = reached-from p d 0 (start p) xs sound (reached-start p d (pos 0) (some-channels p d sound there)) in
     let e : 0 + length xs ≡ length xs = omega arith in
     rw e at from
 
 -- what a channel goes out by is there, and so is its channel there
-pub holder-output : (p : Plan) (d n : ℕ) (t : ℤ) (s : Tile) (o w port c : ℕ) → IsSoundTile p d n t s → IsHolder p d s o w port c → IsOutput p n o × (w < out_channels p d o)
+pub holder-output : (p : Plan) (d n : ℕ) (t : ℤ) (s : Tile) (o w port c : ℕ) → IsSoundTile p d n t s
+    → IsHolder p d s o w port c → IsOutput p n o × (w < out_channels p d o)
 holder-output p d n t s o w port c sound is = subst (HasOutput p d n) is.active (sound.stages port c)
 
 -- ---- what a step needs of the places

@@ -6,7 +6,8 @@ use Rattle.std.proofs.lemmas.Bool.Decides.{nat_tests}
 use Rattle.noc_model.specs.Place.{next_in, last_in, goes_plus, position, are_edges}
 
 -- how far it is by plus
-pub gap : (k x y : ℕ) → x < k → y < k → ((x ≤ y) × ((y + k - x) % k ≡ y - x)) ⊎ ((y < x) × ((y + k - x) % k ≡ y + k - x))
+pub gap : (k x y : ℕ) → x < k → y < k
+    → ((x ≤ y) × ((y + k - x) % k ≡ y - x)) ⊎ ((y < x) × ((y + k - x) % k ≡ y + k - x))
 gap k x y hx hy = go order
   where
     order : (x ≤ y) ⊎ (y < x)
@@ -20,11 +21,13 @@ gap k x y hx hy = go order
     go (inr lt) = let small : y + k - x < k = omega arith in inr (lt, mod-eq_of_lt small)
 
 -- a packet that goes on by plus keeps to it, or is there
-pub plus-kept : (torus : Bool) (k x y : ℕ) → x < k → y < k → x ≢ y → goes_plus torus k x y ≡ true → (torus ≡ false → x + 1 < k)
+pub plus-kept : (torus : Bool) (k x y : ℕ) → x < k → y < k → x ≢ y → goes_plus torus k x y ≡ true
+    → (torus ≡ false → x + 1 < k)
     → (next_in k x ≡ y) ⊎ (goes_plus torus k (next_in k x) y ≡ true)
 plus-kept torus k x y hx hy differ g edge = grind (arith, nat_tests, gap)
 
-pub minus-kept : (torus : Bool) (k x y : ℕ) → x < k → y < k → x ≢ y → goes_plus torus k x y ≡ false → (torus ≡ false → 0 < x)
+pub minus-kept : (torus : Bool) (k x y : ℕ) → x < k → y < k → x ≢ y → goes_plus torus k x y ≡ false
+    → (torus ≡ false → 0 < x)
     → (last_in k x ≡ y) ⊎ (goes_plus torus k (last_in k x) y ≡ false)
 minus-kept torus k x y hx hy differ g edge = grind (arith, nat_tests, gap)
 
@@ -52,22 +55,26 @@ pub position-below : (k x c : ℕ) → x < k → position k x c < k
 position-below k x c hx = let e = next-mod k x hx in grind (arith, nat_tests)
 
 -- from position x on to x', with b where the next link is a wrap link
-rises : (b : Bool) (k x x' c i : ℕ) → x < k → x' < k → k ≤ 16 → c ≤ 1 → (c ≡ 0 → x' ≡ x + 1) → (c ≡ 1 → ((x + 1) % k ≡ x') × (x' + 1 < k))
+rises : (b : Bool) (k x x' c i : ℕ) → x < k → x' < k → k ≤ 16 → c ≤ 1 → (c ≡ 0 → x' ≡ x + 1)
+    → (c ≡ 1 → ((x + 1) % k ≡ x') × (x' + 1 < k))
     → (2 * i + c) * 16 + position k x c < (2 * i + (if b then 1 else c)) * 16 + position k x' (if b then 1 else c)
 rises true k x x' zero i hx hx' small low straight behind = omega arith
 rises false k x x' zero i hx hx' small low straight behind = let e = straight refl in omega arith
 rises b k x x' (suc (suc c)) i hx hx' small low straight behind = absurd (omega arith)
 rises true k x x' (suc zero) i hx hx' small low straight behind = one k x x' i (behind refl)
   where
-    one : (k x x' i : ℕ) → ((x + 1) % k ≡ x') × (x' + 1 < k) → (2 * i + 1) * 16 + (x + 1) % k < (2 * i + 1) * 16 + (x' + 1) % k
+    one : (k x x' i : ℕ) → ((x + 1) % k ≡ x') × (x' + 1 < k)
+        → (2 * i + 1) * 16 + (x + 1) % k < (2 * i + 1) * 16 + (x' + 1) % k
     one k x x' i h = let e : (x' + 1) % k ≡ x' + 1 = mod-eq_of_lt h.1 in rw (h.0, e) (omega arith)
 rises false k x x' (suc zero) i hx hx' small low straight behind = one k x x' i (behind refl)
   where
-    one : (k x x' i : ℕ) → ((x + 1) % k ≡ x') × (x' + 1 < k) → (2 * i + 1) * 16 + (x + 1) % k < (2 * i + 1) * 16 + (x' + 1) % k
+    one : (k x x' i : ℕ) → ((x + 1) % k ≡ x') × (x' + 1 < k)
+        → (2 * i + 1) * 16 + (x + 1) % k < (2 * i + 1) * 16 + (x' + 1) % k
     one k x x' i h = let e : (x' + 1) % k ≡ x' + 1 = mod-eq_of_lt h.1 in rw (h.0, e) (omega arith)
 
 -- along one side the rank rises
-pub plus-rises : (torus : Bool) (k x y c i : ℕ) → x < k → y < k → k ≤ 16 → 1 < k → c ≤ 1 → next_in k x ≢ y → (c ≡ 0 → next_in k x ≡ x + 1)
+pub plus-rises : (torus : Bool) (k x y c i : ℕ) → x < k → y < k → k ≤ 16 → 1 < k → c ≤ 1 → next_in k x ≢ y
+    → (c ≡ 0 → next_in k x ≡ x + 1)
     → (c ≡ 1 → next_in k x ≤ y)
     → (2 * i + c) * 16 + position k x c < (2 * i + (if torus && (nat_lt 1 k && are_edges k (next_in k x) (next_in k (next_in k x))) then 1 else c)) * 16
     + position k (next_in k x) (if torus && (nat_lt 1 k && are_edges k (next_in k x) (next_in k (next_in k x))) then 1 else c)
@@ -79,7 +86,8 @@ plus-rises torus k x y c i hx hy small some low differ straight behind =
 mirrored : (k x : ℕ) → x < k → next_in k (k - 1 - x) ≡ k - 1 - last_in k x
 mirrored k x hx = grind (arith, nat_tests)
 
-pub minus-rises : (torus : Bool) (k x y c i : ℕ) → x < k → y < k → k ≤ 16 → 1 < k → c ≤ 1 → last_in k x ≢ y → (c ≡ 0 → x ≡ last_in k x + 1)
+pub minus-rises : (torus : Bool) (k x y c i : ℕ) → x < k → y < k → k ≤ 16 → 1 < k → c ≤ 1 → last_in k x ≢ y
+    → (c ≡ 0 → x ≡ last_in k x + 1)
     → (c ≡ 1 → y ≤ last_in k x)
     → (2 * i + c) * 16 + position k (k - 1 - x) c < (2 * i + (if torus && (nat_lt 1 k && are_edges k (last_in k x) (last_in k (last_in k x))) then 1 else c)) * 16
     + position k (k - 1 - last_in k x) (if torus && (nat_lt 1 k && are_edges k (last_in k x) (last_in k (last_in k x))) then 1 else c)

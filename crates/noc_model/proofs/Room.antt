@@ -27,7 +27,8 @@ on_row-some (suc k) j row w below on = go order (λ less. on_row-some k j row w 
         omega (arith, here)
 
 -- where a flit is on the link, the list at its end is shorter than the buffer
-pub arrival-room : (p : Plan) (s : State) (n o m i : ℕ) (x : LinkFlit) → channel_sum p s n o m x.channel ≡ p.buffer → i < p.stages → (s n).row o i ≡ Some x
+pub arrival-room : (p : Plan) (s : State) (n o m i : ℕ) (x : LinkFlit) → channel_sum p s n o m x.channel ≡ p.buffer
+    → i < p.stages → (s n).row o i ≡ Some x
     → length ((s m).queue (opposite o) x.channel) < p.buffer
 arrival-room p s n o m i x sum below e =
     let on : is_on ((s n).row o i) x.channel ≡ true = ap (λ y. is_on y x.channel) e ∙ same x.channel in
@@ -38,11 +39,13 @@ arrival-room p s n o m i x sum below e =
     same a = let e : a ≡ a = refl in grind (arith, nat_tests)
 
 -- where a credit comes back, the count is below the buffer
-pub credit-room : (p : Plan) (s : State) (n o m w : ℕ) → channel_sum p s n o m w ≡ p.buffer → (s m).pulse (opposite o) w ≡ true → (s n).credits o w < p.buffer
+pub credit-room : (p : Plan) (s : State) (n o m w : ℕ) → channel_sum p s n o m w ≡ p.buffer
+    → (s m).pulse (opposite o) w ≡ true → (s n).credits o w < p.buffer
 credit-room p s n o m w sum e = let one : one_if ((s m).pulse (opposite o) w) ≡ 1 = ap one_if e in omega (arith, sum, one)
 
 -- the sum in each state of a run that a driver makes
-pub driven-sum : (p : Plan) (d : ℕ) (v : Driver) (k : ℕ) (states : ℕ → List ℕ) (n o m w : ℕ) → IsSound p → n < tiles p → neighbour p n o ≡ Some m
+pub driven-sum : (p : Plan) (d : ℕ) (v : Driver) (k : ℕ) (states : ℕ → List ℕ) (n o m w : ℕ) → IsSound p → n < tiles p
+    → neighbour p n o ≡ Some m
     → channel_sum p (driven_state p d v k 0 (start p) states) n o m w ≡ p.buffer
 driven-sum p d v k states n o m w sound inside e =
     ap (λ s. channel_sum p s n o m w) (driven-state_from p d v k 0 (start p) states)

@@ -19,7 +19,8 @@ pub record AreTwinStates (p : Plan) (d t : ℕ) (a b : State) : Type 0 where
   pub same : IsSameState p d a b
 
 -- so are they after a step
-pub twins-next : (p : Plan) (d t : ℕ) (a b : State) (x y : Input) → IsSound p → AreSame p d x y → AreTwinStates p d t a b
+pub twins-next : (p : Plan) (d t : ℕ) (a b : State) (x y : Input) → IsSound p → AreSame p d x y
+    → AreTwinStates p d t a b
     → AreTwinStates p d (suc t) (step p d (pos t) a x) (step p d (pos t) b y)
 twins-next p d t a b x y sound fit twins = record {
   reached = reached-next p d t a x sound twins.reached;
@@ -28,9 +29,11 @@ twins-next p d t a b x y sound fit twins = record {
 }
 
 -- and the cycle's events are the same
-pub twins-events : (p : Plan) (d t : ℕ) (a b : State) (x y : Input) → IsSound p → AreSame p d x y → AreTwinStates p d t a b
+pub twins-events : (p : Plan) (d t : ℕ) (a b : State) (x y : Input) → IsSound p → AreSame p d x y
+    → AreTwinStates p d t a b
     → cycle_events p d t a x ≡ cycle_events p d t b y
-twins-events p d t a b x y sound fit twins = events-same p d t a b x y sound twins.same fit (placed p d (pos t) a twins.reached)
+twins-events p d t a b x y sound fit twins =
+    events-same p d t a b x y sound twins.same fit (placed p d (pos t) a twins.reached)
 
 -- ---- lists of inputs
 
@@ -40,7 +43,8 @@ AreAllSame p d [] (y ∷ ys) = ⊥
 AreAllSame p d (x ∷ xs) [] = ⊥
 AreAllSame p d (x ∷ xs) (y ∷ ys) = AreSame p d x y × AreAllSame p d xs ys
 
-pub states-from : (p : Plan) (d t : ℕ) (a b : State) (xs ys : List Input) → IsSound p → AreAllSame p d xs ys → AreTwinStates p d t a b
+pub states-from : (p : Plan) (d t : ℕ) (a b : State) (xs ys : List Input) → IsSound p → AreAllSame p d xs ys
+    → AreTwinStates p d t a b
     → IsSameState p d (state_from p d t a xs) (state_from p d t b ys)
 states-from p d t a b [] [] sound fit twins = twins.same
 states-from p d t a b [] (y ∷ ys) sound fit twins = absurd fit
@@ -48,7 +52,8 @@ states-from p d t a b (x ∷ xs) [] sound fit twins = absurd fit
 states-from p d t a b (x ∷ xs) (y ∷ ys) sound fit twins =
     states-from p d (suc t) (step p d (pos t) a x) (step p d (pos t) b y) xs ys sound fit.1 (twins-next p d t a b x y sound fit.0 twins)
 
-pub events-from : (p : Plan) (d t : ℕ) (a b : State) (xs ys : List Input) → IsSound p → AreAllSame p d xs ys → AreTwinStates p d t a b
+pub events-from : (p : Plan) (d t : ℕ) (a b : State) (xs ys : List Input) → IsSound p → AreAllSame p d xs ys
+    → AreTwinStates p d t a b
     → events_from p d t a xs ≡ events_from p d t b ys
 events-from p d t a b [] [] sound fit twins = refl
 events-from p d t a b [] (y ∷ ys) sound fit twins = absurd fit
@@ -60,7 +65,8 @@ events-from p d t a b (x ∷ xs) (y ∷ ys) sound fit twins =
 
 -- ---- a driver
 
-pub driven_events-twins : (p : Plan) (d : ℕ) (v : Driver) (k t : ℕ) (a b : State) (states others : ℕ → List ℕ) → IsSound p → ((j : ℕ) → states j ≡ others j) → AreTwinStates p d t a b
+pub driven_events-twins : (p : Plan) (d : ℕ) (v : Driver) (k t : ℕ) (a b : State) (states others : ℕ → List ℕ)
+    → IsSound p → ((j : ℕ) → states j ≡ others j) → AreTwinStates p d t a b
     → driven_events p d v k t a states ≡ driven_events p d v k t b others
 driven_events-twins p d v zero t a b states others sound alike twins = refl
 driven_events-twins p d v (suc k) t a b states others sound alike twins =
@@ -72,7 +78,8 @@ driven_events-twins p d v (suc k) t a b states others sound alike twins =
     (driven_events-twins p d v k (suc t) (step p d (pos t) a x) (step p d (pos t) b y) (next_states p d v states t a) (next_states p d v others t b) sound
     (next_states-same p d v states others t a b sound twins.same (placed p d (pos t) a twins.reached) alike) (twins-next p d t a b x y sound fit twins))
 
-pub driven_state-twins : (p : Plan) (d : ℕ) (v : Driver) (k t : ℕ) (a b : State) (states others : ℕ → List ℕ) → IsSound p → ((j : ℕ) → states j ≡ others j) → AreTwinStates p d t a b
+pub driven_state-twins : (p : Plan) (d : ℕ) (v : Driver) (k t : ℕ) (a b : State) (states others : ℕ → List ℕ)
+    → IsSound p → ((j : ℕ) → states j ≡ others j) → AreTwinStates p d t a b
     → IsSameState p d (driven_state p d v k t a states) (driven_state p d v k t b others)
 driven_state-twins p d v zero t a b states others sound alike twins = twins.same
 driven_state-twins p d v (suc k) t a b states others sound alike twins =
@@ -82,7 +89,8 @@ driven_state-twins p d v (suc k) t a b states others sound alike twins =
     (next_states-same p d v states others t a b sound twins.same (placed p d (pos t) a twins.reached) alike)
     (twins-next p d t a b x y sound (driven-alike p d v states others t alike) twins)
 
-pub driver_states-twins : (p : Plan) (d : ℕ) (v : Driver) (k t : ℕ) (a b : State) (states others : ℕ → List ℕ) → IsSound p → ((j : ℕ) → states j ≡ others j) → AreTwinStates p d t a b
+pub driver_states-twins : (p : Plan) (d : ℕ) (v : Driver) (k t : ℕ) (a b : State) (states others : ℕ → List ℕ)
+    → IsSound p → ((j : ℕ) → states j ≡ others j) → AreTwinStates p d t a b
     → (j : ℕ) → driver_states p d v k t a states j ≡ driver_states p d v k t b others j
 driver_states-twins p d v zero t a b states others sound alike twins = alike
 driver_states-twins p d v (suc k) t a b states others sound alike twins =

@@ -22,7 +22,8 @@ pub record IsReadyFor (p : Plan) (d n : ℕ) (t : ℤ) (s : Tile) (i : TileIn) (
   pub taken : takes p d n t s i g.out g.to ≡ true
 
 ready_queue : (p : Plan) (d n : ℕ) (t : ℤ) (s : Tile) (i : TileIn) (fs : List Flit) (st : Stage) (o w : ℕ)
-    → st ≡ Active o w → is_ready_at p d n t s i fs st ≡ true → (f : Flit) × (front fs ≡ Some f) × (takes p d n t s i o w ≡ true)
+    → st ≡ Active o w → is_ready_at p d n t s i fs st ≡ true
+    → (f : Flit) × (front fs ≡ Some f) × (takes p d n t s i o w ≡ true)
 ready_queue p d n t s i fs Idle o w e r = absurd (cc e)
 ready_queue p d n t s i fs (Routed o') o w e r = absurd (cc e)
 ready_queue p d n t s i [] (Active o' w') o w e r = absurd (cc r)
@@ -40,7 +41,8 @@ grant_at-is c (Active o w) g e =
     let is : record { channel = c; out = o; to = w } ≡ g = cc in
     (ap (λ (x : Grant). x.channel) (sym is), ap (λ (x : Grant). Active x.out x.to) is)
 
-pub then-is : {A B : Type 0} (f : A → Option B) (o : Option A) (y : B) → option_and_then f o ≡ Some y → (x : A) × (o ≡ Some x) × (f x ≡ Some y)
+pub then-is : {A B : Type 0} (f : A → Option B) (o : Option A) (y : B) → option_and_then f o ≡ Some y
+    → (x : A) × (o ≡ Some x) × (f x ≡ Some y)
 then-is f None y e = absurd (cc e)
 then-is f (Some x) y e = (x, refl, e)
 
@@ -60,7 +62,8 @@ pub asked-ready : (p : Plan) (d n : ℕ) (t : ℤ) (s : Tile) (i : TileIn) (port
     → asked p d n t s i port ≡ Some g → IsReadyFor p d n t s i port g
 unfolding asked
 asked-ready p d n t s i port g e =
-    let got = then-is (λ c. grant_at c (s.stage port c)) (pick (in_channels p d port) (is_ready p d n t s i port) (s.turn port)) g e in
+    let got =
+    then-is (λ c. grant_at c (s.stage port c)) (pick (in_channels p d port) (is_ready p d n t s i port) (s.turn port)) g e in
     let member = pick-member (in_channels p d port) (is_ready p d n t s i port) (s.turn port) got.0 got.1 in
     let at = grant_at-is got.0 (s.stage port got.0) g got.2 in
     let ready = ready_queue p d n t s i (s.queue port got.0) (s.stage port got.0) g.out g.to at.1 member.1 in
@@ -88,7 +91,8 @@ pub leaves-front : (p : Plan) (d n : ℕ) (t : ℤ) (s : Tile) (i : TileIn) (por
 unfolding leaves
 leaves-front p d n t s i port c e = go (grant p d n t s i port) refl e
   where
-    go : (o : Option Grant) → grant p d n t s i port ≡ o → is_channel o c ≡ true → (f : Flit) × (front (s.queue port c) ≡ Some f)
+    go : (o : Option Grant) → grant p d n t s i port ≡ o → is_channel o c ≡ true
+        → (f : Flit) × (front (s.queue port c) ≡ Some f)
     go None is e = absurd (cc e)
     go (Some g) is e =
         let ready = grant-ready p d n t s i port g is in
@@ -132,15 +136,18 @@ granted-out p d n t s i o port g is_chosen is_granted =
     ap (λ (h : Grant). h.out) (sym one) ∙ asks.2
 
 -- an output picks a port that is there
-pub chosen-inside : (p : Plan) (d n : ℕ) (t : ℤ) (s : Tile) (i : TileIn) (o port : ℕ) → chosen p d n t s i o ≡ Some port → port < ports p
+pub chosen-inside : (p : Plan) (d n : ℕ) (t : ℤ) (s : Tile) (i : TileIn) (o port : ℕ) → chosen p d n t s i o ≡ Some port
+    → port < ports p
 unfolding chosen
-chosen-inside p d n t s i o port e = (pick-member (ports p) (λ k. asks_for (asked p d n t s i k) o) (s.switch o) port e).0
+chosen-inside p d n t s i o port e =
+    (pick-member (ports p) (λ k. asks_for (asked p d n t s i k) o) (s.switch o) port e).0
 
 pub sent-by : (p : Plan) (d n : ℕ) (t : ℤ) (s : Tile) (i : TileIn) (o : ℕ) (x : LinkFlit)
     → sent p d n t s i o ≡ Some x → IsSentBy p d n t s i o x
 unfolding sent
 sent-by p d n t s i o x e =
-    let got = then-is (λ port. option_and_then (λ g. with_channel g.to (front (s.queue port g.channel))) (grant p d n t s i port)) (chosen p d n t s i o) x e in
+    let got =
+    then-is (λ port. option_and_then (λ g. with_channel g.to (front (s.queue port g.channel))) (grant p d n t s i port)) (chosen p d n t s i o) x e in
     let by = then-is (λ g. with_channel g.to (front (s.queue got.0 g.channel))) (grant p d n t s i got.0) x got.2 in
     record {
       port = got.0;

@@ -30,9 +30,11 @@ pub output-below : (p : Plan) (n o : ℕ) → IsOutput p n o → o < ports p
 output-below p n o (inl e) = omega arith
 output-below p n o (inr e) = link-below p n o e
 
-granted-output : (p : Plan) (d n : ℕ) (t : ℤ) (s : Tile) (i : TileIn) (port : ℕ) (g : Grant) → ((port c : ℕ) → HasOutput p d n (s.stage port c)) → grant p d n t s i port ≡ Some g
+granted-output : (p : Plan) (d n : ℕ) (t : ℤ) (s : Tile) (i : TileIn) (port : ℕ) (g : Grant)
+    → ((port c : ℕ) → HasOutput p d n (s.stage port c)) → grant p d n t s i port ≡ Some g
     → IsOutput p n g.out
-granted-output p d n t s i port g stages e = (subst (HasOutput p d n) (grant-ready p d n t s i port g e).active (stages port g.channel)).0
+granted-output p d n t s i port g stages e =
+    (subst (HasOutput p d n) (grant-ready p d n t s i port g e).active (stages port g.channel)).0
 
 -- ---- picks are grants
 
@@ -44,7 +46,8 @@ picked-granted port g = go (port == port) (let e : port ≡ port = refl in grind
     go false e = absurd (cc e)
 
 -- an output that picks a port is what is granted to it
-pub chosen-granted : (p : Plan) (d n : ℕ) (t : ℤ) (s : Tile) (i : TileIn) (o port : ℕ) → chosen p d n t s i o ≡ Some port → (g : Grant) × (grant p d n t s i port ≡ Some g) × (g.out ≡ o)
+pub chosen-granted : (p : Plan) (d n : ℕ) (t : ℤ) (s : Tile) (i : TileIn) (o port : ℕ)
+    → chosen p d n t s i o ≡ Some port → (g : Grant) × (grant p d n t s i port ≡ Some g) × (g.out ≡ o)
 unfolding chosen grant
 chosen-granted p d n t s i o port e =
     let member = pick-member (ports p) (λ k. asks_for (asked p d n t s i k) o) (s.switch o) port e in
@@ -70,11 +73,13 @@ out_of (Some g) = Some g.out
 abbrev sent_weight : (Flit → ℕ) → Plan → ℕ → ℕ → ℤ → Tile → TileIn → ℕ → ℕ
 sent_weight v p d n t s i o = weight v (flit_of (sent p d n t s i o))
 
-with-weight : (v : Flit → ℕ) (w : ℕ) (f : Option Flit) → weight v (flit_of (with_channel w f)) ≡ weight v (option_to_list f)
+with-weight : (v : Flit → ℕ) (w : ℕ) (f : Option Flit)
+    → weight v (flit_of (with_channel w f)) ≡ weight v (option_to_list f)
 with-weight v w None = refl
 with-weight v w (Some f) = refl
 
-by-port : (v : Flit → ℕ) (s : Tile) (port : ℕ) (g : Option Grant) → at_some (out_of g) (λ o. granted_weight v s port g) ≡ granted_weight v s port g
+by-port : (v : Flit → ℕ) (s : Tile) (port : ℕ) (g : Option Grant)
+    → at_some (out_of g) (λ o. granted_weight v s port g) ≡ granted_weight v s port g
 unfolding out_of
 by-port v s port None = refl
 by-port v s port (Some g) = refl
@@ -93,12 +98,15 @@ by-output v p d n t s i o = go (chosen p d n t s i o) refl
             let picks = ap (chosen p d n t s i) (sym by.out) ∙ granted-chosen p d n t s i by.port by.by by.granted in
             absurd (cc (picks, e))
 
-    go : (k : Option ℕ) → chosen p d n t s i o ≡ k → at_some k (λ port. granted_weight v s port (grant p d n t s i port)) ≡ sent_weight v p d n t s i o
+    go : (k : Option ℕ) → chosen p d n t s i o ≡ k
+        → at_some k (λ port. granted_weight v s port (grant p d n t s i port)) ≡ sent_weight v p d n t s i o
     go None e = sym (ap (λ x. weight v (flit_of x)) (none e))
     go (Some port) e =
         let by = chosen-granted p d n t s i o port e in
-        let out : sent p d n t s i o ≡ with_channel by.0.to (front (s.queue port by.0.channel)) = ap (sent p d n t s i) (sym by.2) ∙ granted-sent p d n t s i port by.0 by.1 in
-        ap (granted_weight v s port) by.1 ∙ sym (ap (λ x. weight v (flit_of x)) out ∙ with-weight v by.0.to (front (s.queue port by.0.channel)))
+        let out : sent p d n t s i o ≡ with_channel by.0.to (front (s.queue port by.0.channel)) =
+        ap (sent p d n t s i) (sym by.2) ∙ granted-sent p d n t s i port by.0 by.1 in
+        ap (granted_weight v s port) by.1
+        ∙ sym (ap (λ x. weight v (flit_of x)) out ∙ with-weight v by.0.to (front (s.queue port by.0.channel)))
 
 out_of-is : (g : Option Grant) (o : ℕ) → out_of g ≡ Some o → (h : Grant) × (g ≡ Some h) × (h.out ≡ o)
 unfolding out_of
@@ -122,7 +130,8 @@ matched p d n t s i stages = record {
 }
 
 -- what the granted flits weigh is what the sent ones do
-pub switched : (v : Flit → ℕ) (p : Plan) (d n : ℕ) (t : ℤ) (s : Tile) (i : TileIn) → ((port c : ℕ) → HasOutput p d n (s.stage port c))
+pub switched : (v : Flit → ℕ) (p : Plan) (d n : ℕ) (t : ℤ) (s : Tile) (i : TileIn)
+    → ((port c : ℕ) → HasOutput p d n (s.stage port c))
     → total (ports p) (λ port. granted_weight v s port (grant p d n t s i port)) ≡ total (ports p) (λ o. weight v (flit_of (sent p d n t s i o)))
 switched v p d n t s i stages =
     total-same (ports p) (λ port. granted_weight v s port (grant p d n t s i port)) (λ port. at_some (out_of (grant p d n t s i port)) (λ o. granted_weight v s port (grant p d n t s i port)))

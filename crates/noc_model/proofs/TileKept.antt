@@ -37,12 +37,14 @@ hosted_tile-home p d dest (Some r) e = go (hosts p r.tile d) refl e
     go true is e = let same : r.tile ≡ dest = cc in rw (← same) is
     go false is e = absurd (cc e)
 
-goes_to-home : (p : Plan) (d dest : ℕ) (k : Packet) (x : Offer) → IsSoundPacket p d k → goes_to p d k x ≡ Some dest → hosts p dest d ≡ true
+goes_to-home : (p : Plan) (d dest : ℕ) (k : Packet) (x : Offer) → IsSoundPacket p d k → goes_to p d k x ≡ Some dest
+    → hosts p dest d ≡ true
 goes_to-home p d dest Between x sound e = hosted_tile-home p d dest (range_of p x.address) e
 goes_to-home p d dest (Passing to) x sound e = let same : to ≡ dest = cc in rw (← same) sound
 goes_to-home p d dest Dropping x sound e = absurd (cc e)
 
-entry-home : (p : Plan) (d : ℕ) (k : Packet) (word : Option Offer) (f : Flit) → IsSoundPacket p d k → entry p d k word ≡ Some f → GoesHome p d f
+entry-home : (p : Plan) (d : ℕ) (k : Packet) (word : Option Offer) (f : Flit) → IsSoundPacket p d k
+    → entry p d k word ≡ Some f → GoesHome p d f
 entry-home p d k None f sound e = absurd (cc e)
 entry-home p d k (Some x) f sound e = go (goes_to p d k x) refl e
   where
@@ -56,11 +58,13 @@ entry-home p d k (Some x) f sound e = go (goes_to p d k x) refl e
 one-home : (p : Plan) (d : ℕ) (f : Flit) → GoesHome p d f → All (GoesHome p d) (f ∷ [])
 one-home p d f h = All-cons (GoesHome p d) f [] h (All-nil (GoesHome p d))
 
-option-home : (p : Plan) (d : ℕ) (o : Option Flit) → ((f : Flit) → o ≡ Some f → GoesHome p d f) → All (GoesHome p d) (option_to_list o)
+option-home : (p : Plan) (d : ℕ) (o : Option Flit) → ((f : Flit) → o ≡ Some f → GoesHome p d f)
+    → All (GoesHome p d) (option_to_list o)
 option-home p d None h = All-nil (GoesHome p d)
 option-home p d (Some f) h = one-home p d f (h f refl)
 
-flit_on-home : (p : Plan) (d c : ℕ) (o : Option LinkFlit) → ((x : LinkFlit) → o ≡ Some x → GoesHome p d x.flit) → All (GoesHome p d) (flit_on o c)
+flit_on-home : (p : Plan) (d c : ℕ) (o : Option LinkFlit) → ((x : LinkFlit) → o ≡ Some x → GoesHome p d x.flit)
+    → All (GoesHome p d) (flit_on o c)
 flit_on-home p d c None h = All-nil (GoesHome p d)
 flit_on-home p d c (Some x) h = go (x.channel == c)
   where
@@ -69,11 +73,13 @@ flit_on-home p d c (Some x) h = go (x.channel == c)
     go false = All-nil (GoesHome p d)
 
 comes_in-home : (p : Plan) (d : ℕ) (s : Tile) (i : TileIn) (port c : ℕ) → IsSoundPacket p d s.packet
-    → ((port : ℕ) (x : LinkFlit) → i.arrives port ≡ Some x → GoesHome p d x.flit) → All (GoesHome p d) (comes_in p d s i port c)
+    → ((port : ℕ) (x : LinkFlit) → i.arrives port ≡ Some x → GoesHome p d x.flit)
+    → All (GoesHome p d) (comes_in p d s i port c)
 comes_in-home p d s i zero c packet arrives = go (s.current == c)
   where
     go : (b : Bool) → All (GoesHome p d) (if b then option_to_list (entry p d s.packet (word_in p s i)) else [])
-    go true = option-home p d (entry p d s.packet (word_in p s i)) (λ f e. entry-home p d s.packet (word_in p s i) f packet e)
+    go true =
+        option-home p d (entry p d s.packet (word_in p s i)) (λ f e. entry-home p d s.packet (word_in p s i) f packet e)
     go false = All-nil (GoesHome p d)
 comes_in-home p d s i (suc port) c packet arrives = flit_on-home p d c (i.arrives (suc port)) (arrives (suc port))
 
@@ -83,7 +89,8 @@ front-home : (p : Plan) (d : ℕ) (fs : List Flit) (f : Flit) → All (GoesHome 
 front-home p d [] f all e = absurd (cc e)
 front-home p d (g ∷ fs) f all e = let same : g ≡ f = cc in rw (← same) (All-head (GoesHome p d) g fs all)
 
-sent-home : (p : Plan) (d n : ℕ) (t : ℤ) (s : Tile) (i : TileIn) (o : ℕ) (x : LinkFlit) → ((port c : ℕ) → All (GoesHome p d) (s.queue port c))
+sent-home : (p : Plan) (d n : ℕ) (t : ℤ) (s : Tile) (i : TileIn) (o : ℕ) (x : LinkFlit)
+    → ((port c : ℕ) → All (GoesHome p d) (s.queue port c))
     → sent p d n t s i o ≡ Some x → GoesHome p d x.flit
 sent-home p d n t s i o x queued e =
     let by = sent-by p d n t s i o x e in
@@ -101,12 +108,14 @@ link-channel_few p d (suc o) w link h = h
 few-there : (p : Plan) (d o o' w w' : ℕ) → o' ≡ o → w' ≡ w → w' < out_channels p d o' → w < out_channels p d o
 few-there p d o o' w w' out to few = rw (← out, ← to) few
 
-sent-channel : (p : Plan) (d n : ℕ) (t : ℤ) (s : Tile) (i : TileIn) (o : ℕ) (x : LinkFlit) → ((port c : ℕ) → HasOutput p d n (s.stage port c))
+sent-channel : (p : Plan) (d n : ℕ) (t : ℤ) (s : Tile) (i : TileIn) (o : ℕ) (x : LinkFlit)
+    → ((port c : ℕ) → HasOutput p d n (s.stage port c))
     → o ≢ 0 → sent p d n t s i o ≡ Some x → x.channel < link_channels p d
 sent-channel p d n t s i o x stages link e =
     let by = sent-by p d n t s i o x e in
     let ready = grant-ready p d n t s i by.port by.by by.granted in
-    let few = active-few p d n (s.stage by.port by.by.channel) by.by.out by.by.to (stages by.port by.by.channel) ready.active in
+    let few =
+    active-few p d n (s.stage by.port by.by.channel) by.by.out by.by.to (stages by.port by.by.channel) ready.active in
     link-channel_few p d o x.channel link (few-there p d o by.by.out x.channel by.by.to by.out by.to few)
 
 -- ---- the parts of a step
@@ -130,7 +139,8 @@ next_stage-sound p d n t s i port c (Active o w) positive h = go (leaves p d n t
     go true = tt
     go false = h
 
-next_packet-sound : (p : Plan) (d : ℕ) (k : Packet) (word : Option Offer) → IsSoundPacket p d k → IsSoundPacket p d (next_packet p d k word)
+next_packet-sound : (p : Plan) (d : ℕ) (k : Packet) (word : Option Offer) → IsSoundPacket p d k
+    → IsSoundPacket p d (next_packet p d k word)
 next_packet-sound p d k None h = h
 next_packet-sound p d k (Some x) h = go x.last (goes_to p d k x) refl
   where
@@ -139,7 +149,8 @@ next_packet-sound p d k (Some x) h = go x.last (goes_to p d k x) refl
     go false None e = tt
     go false (Some dest) e = goes_to-home p d dest k x h e
 
-next_current-few : (p : Plan) (d current : ℕ) (f : Option Flit) → current < channels p d → next_current p d current f < channels p d
+next_current-few : (p : Plan) (d current : ℕ) (f : Option Flit) → current < channels p d
+    → next_current p d current f < channels p d
 next_current-few p d current None h = h
 next_current-few p d current (Some f) h = go f.tail
   where
@@ -147,14 +158,16 @@ next_current-few p d current (Some f) h = go f.tail
     go true = let some : 0 < channels p d = omega arith in mod-lt (current + 1) some
     go false = h
 
-next_ejected-home : (p : Plan) (d : ℕ) (o : Option LinkFlit) (hears : Bool) (old : Option Flit) (f : Flit) → ((x : LinkFlit) → o ≡ Some x → GoesHome p d x.flit)
+next_ejected-home : (p : Plan) (d : ℕ) (o : Option LinkFlit) (hears : Bool) (old : Option Flit) (f : Flit)
+    → ((x : LinkFlit) → o ≡ Some x → GoesHome p d x.flit)
     → ((g : Flit) → old ≡ Some g → GoesHome p d g) → next_ejected o hears old ≡ Some f → GoesHome p d f
 next_ejected-home p d (Some x) hears old f new kept e = let same : x.flit ≡ f = cc in rw (← same) (new x refl)
 next_ejected-home p d None true old f new kept e = absurd (cc e)
 next_ejected-home p d None false old f new kept e = kept f e
 
 -- a flit that enters finds room
-entry-room : (p : Plan) (d : ℕ) (s : Tile) (i : TileIn) (f : Flit) → entry p d s.packet (word_in p s i) ≡ Some f → length (s.queue 0 s.current) < p.buffer
+entry-room : (p : Plan) (d : ℕ) (s : Tile) (i : TileIn) (f : Flit) → entry p d s.packet (word_in p s i) ≡ Some f
+    → length (s.queue 0 s.current) < p.buffer
 unfolding word_in is_open
 entry-room p d s i f e = go s.packet i.offer e
   where
@@ -170,13 +183,17 @@ entry-room p d s i f e = go s.packet i.offer e
     below : (a b : ℕ) → nat_lt a b ≡ true → a < b
     below a b e = grind (arith, nat_tests)
 
-    go : (k : Packet) (x : Option Offer) → entry p d k (if is_ready_packet k (length (s.queue 0 s.current)) p.buffer then x else None) ≡ Some f
+    go : (k : Packet) (x : Option Offer)
+        → entry p d k (if is_ready_packet k (length (s.queue 0 s.current)) p.buffer then x else None) ≡ Some f
         → length (s.queue 0 s.current) < p.buffer
-    go Between x e = below (length (s.queue 0 s.current)) p.buffer (taken (nat_lt (length (s.queue 0 s.current)) p.buffer) Between x e)
-    go (Passing dest) x e = below (length (s.queue 0 s.current)) p.buffer (taken (nat_lt (length (s.queue 0 s.current)) p.buffer) (Passing dest) x e)
+    go Between x e =
+        below (length (s.queue 0 s.current)) p.buffer (taken (nat_lt (length (s.queue 0 s.current)) p.buffer) Between x e)
+    go (Passing dest) x e =
+        below (length (s.queue 0 s.current)) p.buffer (taken (nat_lt (length (s.queue 0 s.current)) p.buffer) (Passing dest) x e)
     go Dropping x e = absurd (none true x e)
 
-local-fits : (p : Plan) (d : ℕ) (s : Tile) (i : TileIn) (k c : ℕ) → length (s.queue 0 c) ≤ p.buffer → length (drop k (s.queue 0 c) ++ comes_in p d s i 0 c) ≤ p.buffer
+local-fits : (p : Plan) (d : ℕ) (s : Tile) (i : TileIn) (k c : ℕ) → length (s.queue 0 c) ≤ p.buffer
+    → length (drop k (s.queue 0 c) ++ comes_in p d s i 0 c) ≤ p.buffer
 local-fits p d s i k c h = go (s.current == c) refl (entry p d s.packet (word_in p s i)) refl
   where
     go : (b : Bool) → (s.current == c) ≡ b → (o : Option Flit) → entry p d s.packet (word_in p s i) ≡ o
@@ -193,19 +210,23 @@ drop-empty : (k : ℕ) (fs : List Flit) → fs ≡ [] → drop k fs ++ [] ≡ []
 drop-empty zero fs e = rw e refl
 drop-empty (suc k) fs e = rw e refl
 
-unlinked-empty : (p : Plan) (d : ℕ) (s : Tile) (i : TileIn) (k port c : ℕ) → port ≢ 0 → s.queue port c ≡ [] → i.arrives port ≡ None
+unlinked-empty : (p : Plan) (d : ℕ) (s : Tile) (i : TileIn) (k port c : ℕ) → port ≢ 0 → s.queue port c ≡ []
+    → i.arrives port ≡ None
     → drop k (s.queue port c) ++ comes_in p d s i port c ≡ []
 unlinked-empty p d s i k zero c link empty none = absurd (link refl)
 unlinked-empty p d s i k (suc port) c link empty none = rw (empty, none) (drop-empty k [] refl)
 
-shifted-all : (P : ℕ → LinkFlit → Type 0) (x : Option LinkFlit) (row : ℕ → Option LinkFlit) → ((y : LinkFlit) → x ≡ Some y → P 0 y)
-    → ((i : ℕ) (y : LinkFlit) → row i ≡ Some y → P (suc i) y) → (i : ℕ) (y : LinkFlit) → shifted x row i ≡ Some y → P i y
+shifted-all : (P : ℕ → LinkFlit → Type 0) (x : Option LinkFlit) (row : ℕ → Option LinkFlit)
+    → ((y : LinkFlit) → x ≡ Some y → P 0 y)
+    → ((i : ℕ) (y : LinkFlit) → row i ≡ Some y → P (suc i) y) → (i : ℕ) (y : LinkFlit) → shifted x row i ≡ Some y
+    → P i y
 shifted-all P x row first rest zero y e = first y e
 shifted-all P x row first rest (suc i) y e = rest i y e
 
 -- ---- the step
 
-pub tile_step-sound : (p : Plan) (d n : ℕ) (t : ℤ) (s : Tile) (i : TileIn) → AllPositive p.dims → IsSoundTile p d n t s → IsSoundIn p d n i
+pub tile_step-sound : (p : Plan) (d n : ℕ) (t : ℤ) (s : Tile) (i : TileIn) → AllPositive p.dims → IsSoundTile p d n t s
+    → IsSoundIn p d n i
     → IsSoundTile p d n (t +ℤ pos 1) (tile_step p d n t s i)
 unfolding tile_step
 tile_step-sound p d n t s i positive sound come = record {

@@ -15,14 +15,16 @@ use Rattle.noc_model.specs.Flits.{where_there, enters_at, delivered_at}
 
 -- the got event of a flit
 abbrev pub got_of : ℕ → ℕ → ℕ → Flit → Event
-got_of t n d f = record { cycle = t; tile = n; domain = d; kind = Got (record { head = f.head; tail = f.tail; payload = f.payload }) }
+got_of t n d f =
+    record { cycle = t; tile = n; domain = d; kind = Got (record { head = f.head; tail = f.tail; payload = f.payload }) }
 
 -- the flits that are delivered at a tile are those of its got events
 pub got-delivered : (p : Plan) (d t n : ℕ) (s : State) (x : Input) → hosts p n d ≡ true
     → got_events t n d (x.hears n) (ejected_of (s n).ejected) ≡ map (got_of t n d) (delivered_at p d s x n)
 got-delivered p d t n s x here = go (x.hears n) (s n).ejected ∙ sym (ap (λ b. map (got_of t n d) (where_there (b && x.hears n) (option_to_list (s n).ejected))) here)
   where
-    go : (h : Bool) (e : Option Flit) → got_events t n d h (ejected_of e) ≡ map (got_of t n d) (where_there h (option_to_list e))
+    go : (h : Bool) (e : Option Flit)
+        → got_events t n d h (ejected_of e) ≡ map (got_of t n d) (where_there h (option_to_list e))
     go false e = refl
     go true None = refl
     go true (Some f) = refl
@@ -41,7 +43,8 @@ taken-entered p d t n s x here = one (is_open p (s n)) (x.offer n) ∙ sym (ap w
     passed k y None = refl
     passed k y (Some dest) = refl
 
-    one : (open_now : Bool) (o : Option Offer) → count_by (λ (e : Event). is_take e.kind) (offer_events t n d open_now o)
+    one : (open_now : Bool) (o : Option Offer)
+        → count_by (λ (e : Event). is_take e.kind) (offer_events t n d open_now o)
         ≡ length (option_to_list (entry p d (s n).packet (if open_now then o else None))) + one_if (is_dropped p d (s n).packet (if open_now then o else None))
     one true None = refl
     one false None = refl

@@ -62,7 +62,8 @@ is_place-some None k e = absurd (cc e)
 is_place-some (Some i) k e = let same : i ≡ k = grind (arith, nat_tests, e) in ap Some same
 
 -- an optional number below n, as a sum over all below n
-at_some-total : (n : ℕ) (o : Option ℕ) (f : ℕ → ℕ) → ((k : ℕ) → o ≡ Some k → k < n) → at_some o f ≡ total n (λ j. counted (is_place o j) (f j))
+at_some-total : (n : ℕ) (o : Option ℕ) (f : ℕ → ℕ) → ((k : ℕ) → o ≡ Some k → k < n)
+    → at_some o f ≡ total n (λ j. counted (is_place o j) (f j))
 at_some-total n None f below = sym (total-none n (λ j. 0) (λ k less. refl))
 at_some-total n (Some k) f below =
     sym (total-one n k (λ j. counted (is_place (Some k) j) (f j)) (below k refl) (λ j less other. ap (λ b. counted b (f j)) (is_place-other (Some k) k j refl other))

@@ -28,37 +28,46 @@ record Lead (a : Option ℕ) (fs : List Flit) : Type 0 where
   packets : ArePackets a fs last
 
 lead-on : (a b : Option ℕ) (xs ys : List Flit) → ArePackets a xs b → Lead b ys → Lead a (xs ++ ys)
-lead-on a b xs ys first rest = record { last = rest.last; packets = packets-append a b rest.last xs ys first rest.packets }
+lead-on a b xs ys first rest =
+    record { last = rest.last; packets = packets-append a b rest.last xs ys first rest.packets }
 
 -- a first part of packets is packets
 lead-first : (a b : Option ℕ) (xs ys : List Flit) → ArePackets a (xs ++ ys) b → Lead a xs
 lead-first a b [] ys all = record { last = a; packets = refl }
-lead-first a b (f ∷ xs) ys all = let rest = lead-first (after_flit f) b xs ys all.1 in record { last = rest.last; packets = (all.0, rest.packets) }
+lead-first a b (f ∷ xs) ys all =
+    let rest = lead-first (after_flit f) b xs ys all.1 in
+    record { last = rest.last; packets = (all.0, rest.packets) }
 
 -- ---- outputs
 
-sent-from : (p : Plan) (d t : ℕ) (s : State) (g : ℕ → ℕ → ℕ → Option ℕ) (xs : List Input) (n o w : ℕ) → IsSound p → n < tiles p → IsReached p d (pos t) s → IsPacked p d s g
+sent-from : (p : Plan) (d t : ℕ) (s : State) (g : ℕ → ℕ → ℕ → Option ℕ) (xs : List Input) (n o w : ℕ) → IsSound p
+    → n < tiles p → IsReached p d (pos t) s → IsPacked p d s g
     → Lead (entry_at p d (s n) (g n) o w) (sent_on p d t s xs n o w)
 unfolding step
-sent-from p d t s g [] n o w sound inside reached packed = record { last = entry_at p d (s n) (g n) o w; packets = refl }
+sent-from p d t s g [] n o w sound inside reached packed =
+    record { last = entry_at p d (s n) (g n) o w; packets = refl }
 sent-from p d t s g (x ∷ xs) n o w sound inside reached packed =
     let next : State = step p d (pos t) s x in
     let after : IsReached p d (pos (suc t)) next = reached-next p d t s x sound reached in
-    let out = entry-next p d n (pos t) (s n) (fed p d s x n) (g n) o w (stand-at p d t s x g n sound reached after packed inside) in
+    let out =
+    entry-next p d n (pos t) (s n) (fed p d s x n) (g n) o w (stand-at p d t s x g n sound reached after packed inside) in
     lead-on (entry_at p d (s n) (g n) o w) (entry_at p d (next n) (next_stands p d (pos t) s x g n) o w) _ (sent_on p d (suc t) next xs n o w) out
     (sent-from p d (suc t) next (next_stands p d (pos t) s x g) xs n o w sound inside after (packed-next p d t s x g sound reached packed))
 
 -- what passes on a channel of an output
-pub sent-whole : (p : Plan) (d : ℕ) (xs : List Input) (n o w : ℕ) → IsSound p → d < length p.domains → n < tiles p → AreWholePackets (sent_on p d 0 (start p) xs n o w)
+pub sent-whole : (p : Plan) (d : ℕ) (xs : List Input) (n o w : ℕ) → IsSound p → d < length p.domains → n < tiles p
+    → AreWholePackets (sent_on p d 0 (start p) xs n o w)
 sent-whole p d xs n o w sound there inside =
     let reached = reached-start p d (pos 0) (some-channels p d sound there) in
     let lead = sent-from p d 0 (start p) nowhere xs n o w sound inside reached (packed-start p d reached) in
-    let from : entry_at p d (start p n) (nowhere n) o w ≡ None = entry-free p d n (start p n) (nowhere n) o w (reached.held n) refl in
+    let from : entry_at p d (start p n) (nowhere n) o w ≡ None =
+    entry-free p d n (start p n) (nowhere n) o w (reached.held n) refl in
     record { last = lead.last; packets = subst (λ a. ArePackets a (sent_on p d 0 (start p) xs n o w) lead.last) from lead.packets }
 
 -- ---- local channels
 
-entered-from : (p : Plan) (d t : ℕ) (s : State) (xs : List Input) (n c : ℕ) → Lead (given (s n) c) (entered_by p d t s xs n c)
+entered-from : (p : Plan) (d t : ℕ) (s : State) (xs : List Input) (n c : ℕ)
+    → Lead (given (s n) c) (entered_by p d t s xs n c)
 unfolding step tile_step
 entered-from p d t s [] n c = record { last = given (s n) c; packets = refl }
 entered-from p d t s (x ∷ xs) n c =
@@ -82,10 +91,12 @@ entered-whole p d xs n c =
 -- ---- ejection places
 
 -- a flit goes to the ejection place on channel 0
-on-zero : (p : Plan) (d n : ℕ) (t : ℤ) (s : Tile) (i : TileIn) (x : LinkFlit) → ((port c : ℕ) → HasOutput p d n (s.stage port c)) → sent p d n t s i 0 ≡ Some x → x.channel ≡ 0
+on-zero : (p : Plan) (d n : ℕ) (t : ℤ) (s : Tile) (i : TileIn) (x : LinkFlit)
+    → ((port c : ℕ) → HasOutput p d n (s.stage port c)) → sent p d n t s i 0 ≡ Some x → x.channel ≡ 0
 on-zero p d n t s i x stages e =
     let by = sent-by p d n t s i 0 x e in
-    let few = (subst (HasOutput p d n) (grant-ready p d n t s i by.port by.by by.granted).active (stages by.port by.by.channel)).1 in
+    let few =
+    (subst (HasOutput p d n) (grant-ready p d n t s i by.port by.by by.granted).active (stages by.port by.by.channel)).1 in
     go by.by.out by.by.to x.channel by.out by.to few
   where
     go : (o w c : ℕ) → o ≡ 0 → w ≡ c → w < out_channels p d o → c ≡ 0
@@ -93,7 +104,8 @@ on-zero p d n t s i x stages e =
     go (suc o) w c out to few = absurd (omega arith)
 
 -- the place gives its flit away, keeps it, or takes the new one
-place-next : (x : Option LinkFlit) (hears : Bool) (old : Option Flit) → ((y : LinkFlit) → x ≡ Some y → y.channel ≡ 0) → (is_some x ≡ true → (is_none old || hears) ≡ true)
+place-next : (x : Option LinkFlit) (hears : Bool) (old : Option Flit) → ((y : LinkFlit) → x ≡ Some y → y.channel ≡ 0)
+    → (is_some x ≡ true → (is_none old || hears) ≡ true)
     → option_to_list old ++ flit_on x 0 ≡ where_there hears (option_to_list old) ++ option_to_list (next_ejected x hears old)
 place-next None true None on_zero room = refl
 place-next None true (Some f) on_zero room = refl
@@ -107,7 +119,8 @@ place-next (Some x) hears old on_zero room = go hears old room
     one : flit_on (Some x) 0 ≡ x.flit ∷ []
     one = ap (λ b. if b then x.flit ∷ [] else []) on
 
-    go : (h : Bool) (o : Option Flit) → (true ≡ true → (is_none o || h) ≡ true) → option_to_list o ++ flit_on (Some x) 0 ≡ where_there h (option_to_list o) ++ x.flit ∷ []
+    go : (h : Bool) (o : Option Flit) → (true ≡ true → (is_none o || h) ≡ true)
+        → option_to_list o ++ flit_on (Some x) 0 ≡ where_there h (option_to_list o) ++ x.flit ∷ []
     go true o r = ap (λ fs. option_to_list o ++ fs) one
     go false None r = ap (λ fs. [] ++ fs) one
     go false (Some f) r = absurd (let bad = r refl in cc bad)
@@ -128,11 +141,14 @@ delivered-sent p d t s (x ∷ xs) n sound reached =
     let last : List Flit = option_to_list (state_from p d (suc t) next xs n).ejected in
     let one : old ++ flit_on new 0 ≡ heard ++ kept = place-next new (hosts p n d && x.hears n) (s n).ejected
     (λ y e. on-zero p d n (pos t) (s n) (fed p d s x n) y (λ port c. (reached.sound n).stages port c) e) (ejection-room p d n (pos t) (s n) (fed p d s x n)) in
-    let rest : kept ++ later ≡ out ++ last = delivered-sent p d (suc t) next xs n sound (reached-next p d t s x sound reached) in
-    sym (append_assoc old (flit_on new 0) later) ∙ ap (λ fs. fs ++ later) one ∙ append_assoc heard kept later ∙ ap (λ fs. heard ++ fs) rest ∙ sym (append_assoc heard out last)
+    let rest : kept ++ later ≡ out ++ last =
+    delivered-sent p d (suc t) next xs n sound (reached-next p d t s x sound reached) in
+    sym (append_assoc old (flit_on new 0) later) ∙ ap (λ fs. fs ++ later) one ∙ append_assoc heard kept later
+    ∙ ap (λ fs. heard ++ fs) rest ∙ sym (append_assoc heard out last)
 
 -- what is delivered at a tile
-pub delivered-whole : (p : Plan) (d : ℕ) (xs : List Input) (n : ℕ) → IsSound p → d < length p.domains → n < tiles p → AreWholePackets (delivered_to p d 0 (start p) xs n)
+pub delivered-whole : (p : Plan) (d : ℕ) (xs : List Input) (n : ℕ) → IsSound p → d < length p.domains → n < tiles p
+    → AreWholePackets (delivered_to p d 0 (start p) xs n)
 delivered-whole p d xs n sound there inside =
     let reached = reached-start p d (pos 0) (some-channels p d sound there) in
     let whole = sent-whole p d xs n 0 0 sound there inside in

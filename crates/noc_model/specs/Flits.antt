@@ -21,7 +21,7 @@ where_there b fs = if b then fs else []
 abbrev pub is_port : Plan → ℕ → ℕ → Bool
 is_port p n port = at_local port true (is_some (neighbour p n port))
 
--- in the lists of the tile's input channels
+-- in the buffers of the tile's input channels
 abbrev pub in_lists : Plan → ℕ → ℕ → Tile → List Flit
 in_lists p d n s = gathered (ports p)
     (λ port. where_there (is_port p n port) (gathered (in_channels p d port) (s.queue port)))

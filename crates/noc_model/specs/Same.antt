@@ -64,7 +64,7 @@ IsPlacedState p d s = (n : ℕ) → n < tiles p → IsPlacedTile p d n (s n)
 abbrev pub IsBareState : Plan → ℕ → State → Type 0
 IsBareState p d s = (n : ℕ) → n < tiles p → IsBareTile p d n (s n)
 
--- a tile that doesn't host the domain has nothing at its attachment, and no flit in the lists of its local port
+-- a tile that doesn't host the domain has nothing at its attachment, and no flit in the buffers of its local port
 pub record IsUnattached (s : Tile) : Type 0 where
   pub packet : s.packet ≡ Between
   pub current : s.current ≡ 0

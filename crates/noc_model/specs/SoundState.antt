@@ -42,13 +42,13 @@ pub record IsSoundTile (p : Plan) (d n : ℕ) (t : ℤ) (s : Tile) : Type 0 wher
   pub channel : (o i : ℕ) (x : LinkFlit) → o ≢ 0 → s.row o i ≡ Some x → x.channel < link_channels p d
   pub owned : (o i : ℕ) (x : LinkFlit) → o ≢ 0 → s.row o i ≡ Some x → owner p n o (t -ℤ pos (i + 1)) ≡ d
   pub current : s.current < channels p d
-  -- a list of the local port is no longer than the buffer, and one of a port without a link is empty
+  -- a buffer of the local port holds no more flits than its depth, and one of a port without a link is empty
   pub local : (c : ℕ) → length (s.queue 0 c) ≤ p.buffer
   pub unlinked : (port c : ℕ) → port ≢ 0 → neighbour p n port ≡ None → s.queue port c ≡ []
 
 -- what holds in cycle t
 pub record IsSoundState (p : Plan) (d : ℕ) (t : ℤ) (s : State) : Type 0 where
   pub tile : (n : ℕ) → IsSoundTile p d n t (s n)
-  -- no list is longer than the buffer, and no credit count of a link is above it
+  -- no buffer holds more flits than its depth, and no credit count of a link is above it
   pub lists : (n port c : ℕ) → n < tiles p → length ((s n).queue port c) ≤ p.buffer
   pub credits : (n o m w : ℕ) → n < tiles p → neighbour p n o ≡ Some m → (s n).credits o w ≤ p.buffer

@@ -8,7 +8,7 @@ use Rattle.noc_model.specs.Step.{tile_step}
 use Rattle.noc_model.specs.SoundState.{GoesHome}
 use Rattle.noc_model.specs.Outs.{TileOut, tile_out}
 
--- tile n in cycle t, from the start, where is k comes in in cycle k
+-- tile n in cycle t, from the start, where `is k` is what comes in during cycle k
 abbrev pub tile_after : Plan → ℕ → ℕ → (ℕ → TileIn) → ℕ → Tile
 tile_after p d n is zero = start_tile p
 tile_after p d n is (suc t) = tile_step p d n (pos t) (tile_after p d n is t) (is t)
@@ -31,15 +31,16 @@ pub record MayArrive (p : Plan) (d n : ℕ) (t : ℤ) (s : Tile) (port : ℕ) (x
 -- where the tile doesn't host the domain
 pub record IsTileIn (p : Plan) (d n : ℕ) (t : ℤ) (s : Tile) (i : TileIn) : Type 0 where
   pub arrives : (port : ℕ) (x : LinkFlit) → i.arrives port ≡ Some x → MayArrive p d n t s port x
-  pub returns : (o m w : ℕ) → neighbour p n o ≡ Some m → w < link_channels p d → i.returns o w ≡ true → s.credits o w < p.buffer
+  pub returns : (o m w : ℕ) → neighbour p n o ≡ Some m → w < link_channels p d → i.returns o w ≡ true
+      → s.credits o w < p.buffer
   pub offer : hosts p n d ≡ false → i.offer ≡ None
   pub hears : hosts p n d ≡ false → i.hears ≡ false
 
--- it comes in in each cycle of the run
+-- in each cycle of the run this may come into the tile
 abbrev pub AreTileIns : Plan → ℕ → ℕ → (ℕ → TileIn) → Type 0
 AreTileIns p d n is = (t : ℕ) → IsTileIn p d n (pos t) (tile_after p d n is t) (is t)
 
--- no list is longer than the buffer, and no credit count of a link is above it
+-- no buffer holds more flits than its depth, and no credit count of a link is above it
 pub record IsWithin (p : Plan) (d n : ℕ) (s : Tile) : Type 0 where
   pub lists : (port c : ℕ) → length (s.queue port c) ≤ p.buffer
   pub credits : (o m w : ℕ) → neighbour p n o ≡ Some m → w < link_channels p d → s.credits o w ≤ p.buffer

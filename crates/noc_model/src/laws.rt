@@ -20,10 +20,10 @@ ghost use Rattle.noc_model.specs.Flits.{inside, entered, delivered, delivered_to
 ghost use Rattle.noc_model.specs.Packets.{AreWholePackets, sent_on, entered_by};
 ghost use Rattle.noc_model.specs.Lone.{IsLoneWord, IsRoute, HasRoute, least_latency, most_latency, IsGot};
 
-/// Credit conservation. On each channel of each link the credits, the flits on the link, those in the list at its
-/// end, and 1 for a credit that is on its way back add up to the buffer, in every state of every run. No list is
-/// longer than the buffer, each flit goes to a tile that hosts the domain, and a flit on a link came there in a cycle
-/// that the domain owned.
+/// Credit conservation. On each channel of each link the credits, the flits on the link, those in the buffer at its
+/// end, and 1 for a credit that is on its way back add up to the buffer's depth, in every state of every run. No buffer
+/// holds more flits than its depth, each flit goes to a tile that hosts the domain, and a flit on a link came there in
+/// a cycle that the domain owned.
 pub fn channel_sum()
     ensures sum { (p : Plan) (d n port m w : ℕ) (inputs : List Input) → IsSound p → n < tiles p
         → neighbour p n port ≡ Some m
@@ -47,7 +47,7 @@ pub fn rank_rises()
 {}
 
 /// Flit conservation. By every test of flits, so for each flit too, as many entered as were delivered and are still
-/// in lists, on links and in ejection places. No flit is delivered at another tile than the one that it names.
+/// in buffers, on links and in ejection places. No flit is delivered at another tile than the one that it names.
 pub fn conservation()
     ensures counts { (p : Plan) (d : ℕ) (test : Flit → Bool) (inputs : List Input) → IsSound p → d < length p.domains
         → count_by test (entered p d 0 (start p) inputs)

@@ -283,7 +283,7 @@ module _ (o : ℕ) (p : Plan) (d : ℕ) (r q : Parts) (xs ys : List (Option Link
           may-pass p d o r can.tile can.placed can.cycle can.inputs y o_in x (is-granted p d o r can.tile can.placed can.cycle can.inputs y o_in x (sym same-grant ∙ e)) q
           (before.own can.tile can.placed can.cycle can.inputs y)
 
-  more-none : granted_in q.switch d o ≡ None → SendsBelow (o + 1) p d r q xs ys
+  pub more-none : granted_in q.switch d o ≡ None → SendsBelow (o + 1) p d r q xs ys
   more-none e = record {
     made = before.made;
     rest = before.rest;
@@ -386,3 +386,22 @@ sends-none p d r xs made = record {
         through-same r p d v (λ k. None) (λ port. under 0 (grant p d r.tile (pos t) s i port)) (λ k. None) (until 0 (sent p d r.tile (pos t) s i)) (λ k. None) (until 0 (chosen p d r.tile (pos t) s i))
         (λ k k_in. nothing-under (grant p d r.tile (pos t) s i k)) (λ k k_in. nothing k (sent p d r.tile (pos t) s i)) (λ k k_in. nothing k (chosen p d r.tile (pos t) s i))
         (still r p d v sending.quiet sending.shows)
+
+-- ---- nothing to send
+
+silent-grant : (x : Switch) (d o : ℕ) → ((port : ℕ) → ask_at x d port ≡ None) → granted_in x d o ≡ None
+silent-grant x d o none = go (chosen_in x d o)
+  where
+    go : (c : Option ℕ) → option_and_then (granted_to x d) c ≡ None
+    go None = refl
+    go (Some port) = ap (option_map (λ g. let w : Granted = record { port = port; grant = g } in w)) (none port)
+
+-- where no input port asks, the outputs have sent as they stand
+pub sends-nothing : (o : ℕ) (p : Plan) (d : ℕ) (r : Parts) (xs : List (Option LinkFlit)) → d < length p.domains → length xs ≡ ports p → IsMade r p → CanSend p d r
+    → ((port : ℕ) → ask_at r.switch d port ≡ None) → o ≤ ports p → SendsBelow o p d r r xs xs
+sends-nothing zero p d r xs there many made can none few = sends-none p d r xs made
+sends-nothing (suc o) p d r xs there many made can none few =
+    let one : o + 1 ≡ suc o = omega arith in
+    let before = sends-nothing o p d r xs there many made can none (omega (arith, few)) in
+    subst (λ k. SendsBelow k p d r r xs xs) one
+    (more-none o p d r r xs xs before there (omega (arith, few)) many made can (silent-grant r.switch d o none))

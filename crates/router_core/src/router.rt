@@ -1,6 +1,6 @@
 //! The router of a tile.
 
-ghost use Rattle.std.specs.Prelude.{◌≡◌, ◌≢◌, ◌<◌, ◌+◌, ◌++◌, ◌∷◌, [], ℕ, List, length, map, replicate, slice_set, true, None, Some, pos, ◌-ℤ◌, IfSome, IfOk};
+ghost use Rattle.std.specs.Prelude.{◌≡◌, ◌≢◌, ◌<◌, ◌+◌, ◌++◌, ◌∷◌, ◌↔◌, [], ℕ, List, length, map, replicate, slice_set, true, IsTrue, None, Some, pos, ◌-ℤ◌, IfSome, IfOk};
 ghost use Rattle.std.specs.List.{range_with_len};
 ghost use Rattle.noc_model.specs.declared.Flit.{Flit as FlitValue};
 ghost use Rattle.noc_model.specs.declared.Stage.TheVariants.{Idle};
@@ -418,6 +418,20 @@ impl Router {
         }
     }
 
+    /// Whether no input port of domain `d` asks for anything.
+    fn asks_nothing(&self, plan: &Plan, d: u32) -> bool
+        requires made { IsMade self.now plan.now }
+        requires domain { d < length plan.now.domains }
+        ensures { IsTrue result ↔ ((port : ℕ) → ask_at self.now.switch d port ≡ None) }
+    {
+        for port in 0..plan.ports() {
+            if self.switch.asked(d, port).is_some() {
+                return false;
+            }
+        }
+        true
+    }
+
     /// Each output of domain `d` sends the flit that the definition sends there: it takes the place of what was in
     /// `links`, by port. At the local output that is the flit which is ejected.
     fn send_all(&mut self, plan: &Plan, d: u32, links: &mut [Option<LinkFlit>])
@@ -427,6 +441,9 @@ impl Router {
         requires can { CanSend plan.now d self.old }
         ensures { SendsBelow (ports plan.now) plan.now d self.old self.new links.old links.new }
     {
+        if self.asks_nothing(plan, d) {
+            return;
+        }
         for out in 0..plan.ports() {
             let flit = self.send(plan, d, out);
             lay(links, out, flit);

@@ -25,9 +25,11 @@ pub lane-start : {T : Type 0} (u : List (List T)) (d : ℕ) → OnlyLane u u d
 lane-start u d = record { others = λ e apart. refl; places = refl; domains = refl }
 
 pub lane-then : {T : Type 0} (u v w : List (List T)) (d : ℕ) → OnlyLane u v d → OnlyLane v w d → OnlyLane u w d
-lane-then u v w d a b = record { others = λ e apart. b.others e apart ∙ a.others e apart; places = b.places ∙ a.places; domains = b.domains ∙ a.domains }
+lane-then u v w d a b =
+    record { others = λ e apart. b.others e apart ∙ a.others e apart; places = b.places ∙ a.places; domains = b.domains ∙ a.domains }
 
-pub lane-set : {T : Type 0} (u : List (List T)) (d k : ℕ) (x : T) → d < length u → OnlyLane u (slice_set u d (slice_set (lane u d) k x)) d
+pub lane-set : {T : Type 0} (u : List (List T)) (d k : ℕ) (x : T) → d < length u
+    → OnlyLane u (slice_set u d (slice_set (lane u d) k x)) d
 lane-set u d k x there = record {
   others = λ e apart. lanes-other u d e k x apart;
   places = ap length (get_or-set_same u d (slice_set (lane u d) k x) [] there) ∙ length-set (lane u d) k x;
@@ -52,7 +54,8 @@ only-turn x y d e k only = ap (λ (w : Switch). turn_at w e k) only.rest
 -- ---- the best ask is the choice
 
 -- a channel that is ready asks
-ready-asks : (p : Plan) (d n : ℕ) (t : ℤ) (s : Tile) (i : TileIn) (c : ℕ) (fs : List Flit) (st : Stage) → is_ready_at p d n t s i fs st ≡ true
+ready-asks : (p : Plan) (d n : ℕ) (t : ℤ) (s : Tile) (i : TileIn) (c : ℕ) (fs : List Flit) (st : Stage)
+    → is_ready_at p d n t s i fs st ≡ true
     → (g : Grant) × (grant_at c st ≡ Some g) × (g.channel ≡ c)
 ready-asks p d n t s i c fs Idle e = absurd (cc e)
 ready-asks p d n t s i c fs (Routed o) e = absurd (cc e)
@@ -81,10 +84,12 @@ pub record IsAsking (x y : Switch) (p : Plan) (d port m : ℕ) (wheel : Wheel) (
     (credits : List (List ℕ)) (room : List Bool) : Type 0 where
   pub only : OnlyAsks x d y
   pub others : (k : ℕ) → k ≢ port → ask_at y d k ≡ ask_at x d k
-  pub best : (n t : ℕ) (s : Tile) (i : TileIn) → IsShown p d n t s i wheel stages fronts credits room → turn_at x d port ≡ s.turn port
+  pub best : (n t : ℕ) (s : Tile) (i : TileIn) → IsShown p d n t s i wheel stages fronts credits room
+      → turn_at x d port ≡ s.turn port
       → ask_at y d port ≡ option_and_then (λ c. grant_at c (s.stage port c)) (pick (in_channels p d port) (below m (is_ready p d n (pos t) s i port)) (s.turn port))
 
-pub asking-start : (x : Switch) (p : Plan) (d port : ℕ) (wheel : Wheel) (stages : List (List Stage)) (fronts : List (List (Option Flit)))
+pub asking-start : (x : Switch) (p : Plan) (d port : ℕ) (wheel : Wheel) (stages : List (List Stage))
+    (fronts : List (List (Option Flit)))
     (credits : List (List ℕ)) (room : List Bool) → ask_at x d port ≡ None → IsAsking x x p d port 0 wheel stages fronts credits room
 asking-start x p d port wheel stages fronts credits room quiet = record {
   only = only-start x d;
@@ -94,17 +99,22 @@ asking-start x p d port wheel stages fronts credits room quiet = record {
 }
 
 -- a port that was cleared asks for nothing
-pub cleared-none : (x y : Switch) (d port : ℕ) → y ≡ with_ask x d port None → d < length x.asks → port < length (lane x.asks d) → ask_at y d port ≡ None
-cleared-none x y d port made there inside = ap (λ u. ask_at u d port) made ∙ lane-written x.asks d port None None there inside
+pub cleared-none : (x y : Switch) (d port : ℕ) → y ≡ with_ask x d port None → d < length x.asks
+    → port < length (lane x.asks d) → ask_at y d port ≡ None
+cleared-none x y d port made there inside =
+    ap (λ u. ask_at u d port) made ∙ lane-written x.asks d port None None there inside
 
 pub cleared-only : (x y : Switch) (d port : ℕ) → y ≡ with_ask x d port None → d < length x.asks → OnlyAsks x d y
 cleared-only x y d port made there = subst (OnlyAsks x d) (sym made) (only-asked x d port None there)
 
-pub cleared-others : (x y : Switch) (d port k : ℕ) → y ≡ with_ask x d port None → d < length x.asks → k ≢ port → ask_at y d k ≡ ask_at x d k
-cleared-others x y d port k made there apart = ap (λ u. ask_at u d k) made ∙ lane-other x.asks d port k None None there apart
+pub cleared-others : (x y : Switch) (d port k : ℕ) → y ≡ with_ask x d port None → d < length x.asks → k ≢ port
+    → ask_at y d k ≡ ask_at x d k
+cleared-others x y d port k made there apart =
+    ap (λ u. ask_at u d k) made ∙ lane-other x.asks d port k None None there apart
 
 -- whether the channel is ready, by what it asks for
-none-ready : (p : Plan) (d n : ℕ) (t : ℤ) (s : Tile) (i : TileIn) (port c : ℕ) → None ≡ asking p d n t s i port c → is_ready p d n t s i port c ≡ false
+none-ready : (p : Plan) (d n : ℕ) (t : ℤ) (s : Tile) (i : TileIn) (port c : ℕ) → None ≡ asking p d n t s i port c
+    → is_ready p d n t s i port c ≡ false
 none-ready p d n t s i port c e = go (is_ready p d n t s i port c) refl
   where
     go : (b : Bool) → is_ready p d n t s i port c ≡ b → is_ready p d n t s i port c ≡ false
@@ -114,18 +124,23 @@ none-ready p d n t s i port c e = go (is_ready p d n t s i port c) refl
         let some : None ≡ Some asks.0 = e ∙ ap (λ b. if b then grant_at c (s.stage port c) else None) is ∙ asks.1 in
         absurd (cc some)
 
-some-ready : (p : Plan) (d n : ℕ) (t : ℤ) (s : Tile) (i : TileIn) (port c : ℕ) (g : Grant) → Some g ≡ asking p d n t s i port c
+some-ready : (p : Plan) (d n : ℕ) (t : ℤ) (s : Tile) (i : TileIn) (port c : ℕ) (g : Grant)
+    → Some g ≡ asking p d n t s i port c
     → (is_ready p d n t s i port c ≡ true) × (grant_at c (s.stage port c) ≡ Some g)
 some-ready p d n t s i port c g e = go (is_ready p d n t s i port c) refl
   where
-    go : (b : Bool) → is_ready p d n t s i port c ≡ b → (is_ready p d n t s i port c ≡ true) × (grant_at c (s.stage port c) ≡ Some g)
+    go : (b : Bool) → is_ready p d n t s i port c ≡ b
+        → (is_ready p d n t s i port c ≡ true) × (grant_at c (s.stage port c) ≡ Some g)
     go true is = (is, sym (e ∙ ap (λ b. if b then grant_at c (s.stage port c) else None) is))
-    go false is = absurd (let none : Some g ≡ None = e ∙ ap (λ b. if b then grant_at c (s.stage port c) else None) is in cc none)
+    go false is =
+        absurd (let none : Some g ≡ None = e ∙ ap (λ b. if b then grant_at c (s.stage port c) else None) is in cc none)
 
-pub asking-skip : (x y : Switch) (p : Plan) (d port m : ℕ) (wheel : Wheel) (stages : List (List Stage)) (fronts : List (List (Option Flit)))
+pub asking-skip : (x y : Switch) (p : Plan) (d port m : ℕ) (wheel : Wheel) (stages : List (List Stage))
+    (fronts : List (List (Option Flit)))
     (credits : List (List ℕ)) (room : List Bool) → m < in_channels p d port
     → ((n t : ℕ) (s : Tile) (i : TileIn) → IsShown p d n t s i wheel stages fronts credits room → None ≡ asking p d n (pos t) s i port m)
-    → IsAsking x y p d port m wheel stages fronts credits room → IsAsking x y p d port (m + 1) wheel stages fronts credits room
+    → IsAsking x y p d port m wheel stages fronts credits room
+    → IsAsking x y p d port (m + 1) wheel stages fronts credits room
 asking-skip x y p d port m wheel stages fronts credits room inside none is = record {
   only = is.only;
   others = is.others;
@@ -138,11 +153,13 @@ and-last : (a b : Bool) → (a && b) ≡ true → b ≡ true
 and-last true b e = e
 and-last false b e = absurd (cc e)
 
-pub asking-more : (x y z : Switch) (p : Plan) (d port m : ℕ) (g : Grant) (wheel : Wheel) (stages : List (List Stage)) (fronts : List (List (Option Flit)))
+pub asking-more : (x y z : Switch) (p : Plan) (d port m : ℕ) (g : Grant) (wheel : Wheel) (stages : List (List Stage))
+    (fronts : List (List (Option Flit)))
     (credits : List (List ℕ)) (room : List Bool) → m < in_channels p d port → d < length y.asks → port < length (lane y.asks d) → g.channel ≡ m
     → z ≡ with_ask y d port (Some (better_ask (turn_at y d port) (ask_at y d port) g))
     → ((n t : ℕ) (s : Tile) (i : TileIn) → IsShown p d n t s i wheel stages fronts credits room → Some g ≡ asking p d n (pos t) s i port m)
-    → IsAsking x y p d port m wheel stages fronts credits room → IsAsking x z p d port (m + 1) wheel stages fronts credits room
+    → IsAsking x y p d port m wheel stages fronts credits room
+    → IsAsking x z p d port (m + 1) wheel stages fronts credits room
 asking-more x y z p d port m g wheel stages fronts credits room inside there port_in channel made some is =
     let new : Option Grant = Some (better_ask (turn_at y d port) (ask_at y d port) g) in
     let made_only : OnlyAsks y d z = subst (OnlyAsks y d) (sym made) (only-asked y d port new there) in
@@ -163,10 +180,13 @@ asking-more x y z p d port m g wheel stages fronts credits room inside there por
           ∙ ap (option_and_then f) (sym (pick-next (in_channels p d port) set (s.turn port) m inside true ready.0));
     }
 
-pub asking-end : (x y : Switch) (p : Plan) (d port m : ℕ) (wheel : Wheel) (stages : List (List Stage)) (fronts : List (List (Option Flit)))
+pub asking-end : (x y : Switch) (p : Plan) (d port m : ℕ) (wheel : Wheel) (stages : List (List Stage))
+    (fronts : List (List (Option Flit)))
     (credits : List (List ℕ)) (room : List Bool) → in_channels p d port ≤ m → IsAsking x y p d port m wheel stages fronts credits room
-    → (n t : ℕ) (s : Tile) (i : TileIn) → IsShown p d n t s i wheel stages fronts credits room → turn_at x d port ≡ s.turn port
+    → (n t : ℕ) (s : Tile) (i : TileIn) → IsShown p d n t s i wheel stages fronts credits room
+    → turn_at x d port ≡ s.turn port
     → ask_at y d port ≡ asked p d n (pos t) s i port
 unfolding asked
 asking-end x y p d port m wheel stages fronts credits room all is n t s i shown turn =
-    is.best n t s i shown turn ∙ ap (option_and_then (λ c. grant_at c (s.stage port c))) (pick-end (in_channels p d port) (is_ready p d n (pos t) s i port) (s.turn port) m all)
+    is.best n t s i shown turn
+    ∙ ap (option_and_then (λ c. grant_at c (s.stage port c))) (pick-end (in_channels p d port) (is_ready p d n (pos t) s i port) (s.turn port) m all)

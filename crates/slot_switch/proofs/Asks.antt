@@ -16,12 +16,14 @@ use Rattle.slot_switch.specs.Switch.{Switch, ask_at, better_ask, with_ask, IsSwi
 use Rattle.slot_switch.specs.Shown.{IsFor, Keeps}
 
 -- lanes by number
-pub map-lanes : {T : Type 0} (f : ℕ → ℕ) (x : T) (xs : List ℕ) → map (λ c. replicate c x) (map f xs) ≡ map (λ d. replicate (f d) x) xs
+pub map-lanes : {T : Type 0} (f : ℕ → ℕ) (x : T) (xs : List ℕ)
+    → map (λ c. replicate c x) (map f xs) ≡ map (λ d. replicate (f d) x) xs
 map-lanes f x [] = refl
 map-lanes f x (y ∷ ys) = ap (λ zs. replicate (f y) x ∷ zs) (map-lanes f x ys)
 
 -- where each place of the lanes has the same value, each is read so, also where there is none
-all-filled : {T : Type 0} (f : ℕ → ℕ) (x : T) (xs : List ℕ) (d k : ℕ) → get_or (lane (map (λ d. replicate (f d) x) xs) d) k x ≡ x
+all-filled : {T : Type 0} (f : ℕ → ℕ) (x : T) (xs : List ℕ) (d k : ℕ)
+    → get_or (lane (map (λ d. replicate (f d) x) xs) d) k x ≡ x
 all-filled f x [] d k = refl
 all-filled f x (y ∷ ys) zero k = filled (f y) k
   where
@@ -35,8 +37,11 @@ module _ (p : Plan) where
   abbrev count : ℕ
   count = length p.domains
 
-  places : {T : Type 0} (x : T) (d : ℕ) → d < count → length (lane (map (λ d. replicate (ports p) x) (range_with_len 0 count)) d) ≡ ports p
-  places x d there = ap length (get_or-map-range_with_len (λ d. replicate (ports p) x) 0 count d d [] there (omega arith)) ∙ length-replicate (ports p) x
+  places : {T : Type 0} (x : T) (d : ℕ) → d < count
+      → length (lane (map (λ d. replicate (ports p) x) (range_with_len 0 count)) d) ≡ ports p
+  places x d there =
+      ap length (get_or-map-range_with_len (λ d. replicate (ports p) x) 0 count d d [] there (omega arith))
+      ∙ length-replicate (ports p) x
 
   lanes-many : {T : Type 0} (x : T) → length (map (λ d. replicate (ports p) x) (range_with_len 0 count)) ≡ count
   lanes-many x = length-map-range_with_len (λ d. replicate (ports p) x) 0 count
@@ -66,7 +71,8 @@ module _ (p : Plan) where
 
   -- a switch that is made of the lists of a plan is the one at the start
   pub start-is : (n : ℕ) (gs : List (List (Option Grant))) (ts ss : List (List ℕ)) (o₁ o₂ o₃ : List ℕ) → n ≡ ports p
-      → o₁ ≡ map (λ d. ports p) (range_with_len 0 count) → o₂ ≡ map (λ d. ports p) (range_with_len 0 count) → o₃ ≡ map (λ d. ports p) (range_with_len 0 count)
+      → o₁ ≡ map (λ d. ports p) (range_with_len 0 count) → o₂ ≡ map (λ d. ports p) (range_with_len 0 count)
+      → o₃ ≡ map (λ d. ports p) (range_with_len 0 count)
       → gs ≡ map (λ c. replicate c None) o₁ → ts ≡ map (λ c. replicate c 0) o₂ → ss ≡ map (λ c. replicate c 0) o₃
       → (let x : Switch = record { ports = n; asks = gs; turns = ts; switches = ss } in x) ≡ start_of p
   start-is n gs ts ss o₁ o₂ o₃ en e₁ e₂ e₃ ea et es =
@@ -81,30 +87,36 @@ get-some (x ∷ xs) zero r d e = cc e
 get-some (x ∷ xs) (suc i) r d e = get-some xs i r d e
 
 -- what is read of the asks is of a channel that there is
-pub read-channel : (x : Switch) (d port : ℕ) (r : Option Grant) → IsSwitch x → slice_get (lane x.asks d) port ≡ Some r → IfSome r (λ g. g.channel < 8)
+pub read-channel : (x : Switch) (d port : ℕ) (r : Option Grant) → IsSwitch x → slice_get (lane x.asks d) port ≡ Some r
+    → IfSome r (λ g. g.channel < 8)
 read-channel x d port None whole e = tt
 read-channel x d port (Some g) whole e = whole.channels d port g (get-some (lane x.asks d) port (Some g) None e)
 
 -- what is read back where a value was put, if anything, is the value
-set-some : {T : Type 0} (xs : List (Option T)) (o : ℕ) (n : Option T) (b : T) → get_or (set xs o n) o None ≡ Some b → n ≡ Some b
+set-some : {T : Type 0} (xs : List (Option T)) (o : ℕ) (n : Option T) (b : T) → get_or (set xs o n) o None ≡ Some b
+    → n ≡ Some b
 set-some xs o n b e = ⊎_elim
     (λ (less : o < length xs). sym (get_or-set_same xs o n None less) ∙ e)
     (λ (past : length xs ≤ o). absurd (let none = get_or_past (set xs o n) o None (let a = length-set xs o n in omega (arith, a, past)) in let bad = sym none ∙ e in cc bad))
     (cases_lt o (length xs))
 
-lane-length : {T : Type 0} (v : List (List T)) (d i e : ℕ) (x : T) → d < length v → length (lane (set v d (set (lane v d) i x)) e) ≡ length (lane v e)
+lane-length : {T : Type 0} (v : List (List T)) (d i e : ℕ) (x : T) → d < length v
+    → length (lane (set v d (set (lane v d) i x)) e) ≡ length (lane v e)
 lane-length v d i e x there = ⊎_elim
     (λ w. let same : e ≡ d = w.1 in
-    ap (λ k. length (lane (set v d (set (lane v d) i x)) k)) same ∙ ap length (get_or-set_same v d (set (lane v d) i x) _ there) ∙ length-set (lane v d) i x
+    ap (λ k. length (lane (set v d (set (lane v d) i x)) k)) same
+    ∙ ap length (get_or-set_same v d (set (lane v d) i x) _ there) ∙ length-set (lane v d) i x
     ∙ ap (λ k. length (lane v k)) (sym same))
     (λ w. ap length (get_or-set_other v d e (set (lane v d) i x) [] w.1))
     (eqb_tells e d)
 
-with-channels : (x : Switch) (d port : ℕ) (n : Option Grant) → d < length x.asks → IsSwitch x → ((g : Grant) → n ≡ Some g → g.channel < 8)
+with-channels : (x : Switch) (d port : ℕ) (n : Option Grant) → d < length x.asks → IsSwitch x
+    → ((g : Grant) → n ≡ Some g → g.channel < 8)
     → (e k : ℕ) (g : Grant) → ask_at (with_ask x d port n) e k ≡ Some g → g.channel < 8
 with-channels x d port n there old new e k g is = ⊎_elim
     (λ w. let own : lane (set x.asks d (set (lane x.asks d) port n)) e ≡ set (lane x.asks d) port n =
-    ap (lane (set x.asks d (set (lane x.asks d) port n))) w.1 ∙ get_or-set_same x.asks d (set (lane x.asks d) port n) [] there in
+    ap (lane (set x.asks d (set (lane x.asks d) port n))) w.1
+    ∙ get_or-set_same x.asks d (set (lane x.asks d) port n) [] there in
     let at : get_or (set (lane x.asks d) port n) k None ≡ Some g = sym (ap (λ l. get_or l k None) own) ∙ is in
     ⊎_elim
     (λ u. new g (set-some (lane x.asks d) port n g (ap (λ j. get_or (set (lane x.asks d) port n) j None) (sym u.1) ∙ at)))
@@ -114,7 +126,8 @@ with-channels x d port n there old new e k g is = ⊎_elim
     (eqb_tells e d)
 
 -- a switch where a port asks for another channel that there is, is a switch
-pub still-switch : (x : Switch) (d port : ℕ) (n : Option Grant) → d < length x.asks → IsSwitch x → ((g : Grant) → n ≡ Some g → g.channel < 8) → IsSwitch (with_ask x d port n)
+pub still-switch : (x : Switch) (d port : ℕ) (n : Option Grant) → d < length x.asks → IsSwitch x
+    → ((g : Grant) → n ≡ Some g → g.channel < 8) → IsSwitch (with_ask x d port n)
 still-switch x d port n there whole new =
     let long : length (set x.asks d (set (lane x.asks d) port n)) ≡ length x.asks = length-set x.asks d _ in
     record {
@@ -127,7 +140,8 @@ still-switch x d port n there whole new =
       channels = with-channels x d port n there whole new;
     }
 
-pub better-channel : (pointer : ℕ) (best : Option Grant) (g : Grant) → ((b : Grant) → best ≡ Some b → b.channel < 8) → g.channel < 8 → (better_ask pointer best g).channel < 8
+pub better-channel : (pointer : ℕ) (best : Option Grant) (g : Grant) → ((b : Grant) → best ≡ Some b → b.channel < 8)
+    → g.channel < 8 → (better_ask pointer best g).channel < 8
 better-channel pointer None g old new = new
 better-channel pointer (Some b) g old new = go (comes_first pointer g.channel b.channel)
   where

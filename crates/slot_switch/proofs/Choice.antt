@@ -52,7 +52,8 @@ pub pick-next : (n : ℕ) (set : ℕ → Bool) (pointer m : ℕ) → m < n → (
 pick-next n set pointer m less true is =
     pick-same n (below (m + 1) set) (with_member (below m set) m) pointer pointer (λ k there. below-in m set is k) refl
     ∙ pick-insert n (below m set) pointer m less
-pick-next n set pointer m less false is = pick-same n (below (m + 1) set) (below m set) pointer pointer (λ k there. below-out m set is k) refl
+pick-next n set pointer m less false is =
+    pick-same n (below (m + 1) set) (below m set) pointer pointer (λ k there. below-out m set is k) refl
 
 -- none is below 0
 pub pick-start : (n : ℕ) (set : ℕ → Bool) (pointer : ℕ) → pick n (below 0 set) pointer ≡ None
@@ -63,7 +64,8 @@ pick-start n set pointer = go (pick n (below 0 set) pointer) refl
 
     go : (o : Option ℕ) → pick n (below 0 set) pointer ≡ o → pick n (below 0 set) pointer ≡ None
     go None e = e
-    go (Some k) e = absurd (let t = sym (pick-member n (below 0 set) pointer k e).1 ∙ ap (λ b. b && set k) (no k) in cc t)
+    go (Some k) e =
+        absurd (let t = sym (pick-member n (below 0 set) pointer k e).1 ∙ ap (λ b. b && set k) (no k) in cc t)
 
 -- all are below n
 pub pick-end : (n : ℕ) (set : ℕ → Bool) (pointer m : ℕ) → n ≤ m → pick n (below m set) pointer ≡ pick n set pointer

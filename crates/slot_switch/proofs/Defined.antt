@@ -22,14 +22,17 @@ and-none : (a : Bool) → (a && false) ≡ false
 and-none true = refl
 and-none false = refl
 
-pub first-none : (n pointer : ℕ) (grants : ℕ → Option Grant) → option_and_then grants (pick n (λ k. false) pointer) ≡ None
+pub first-none : (n pointer : ℕ) (grants : ℕ → Option Grant)
+    → option_and_then grants (pick n (λ k. false) pointer) ≡ None
 unfolding pick
 first-none n pointer grants =
-    let late : least n (λ k. nat_le pointer k && false) ≡ None = none-least n (λ k. nat_le pointer k && false) (λ k. and-none (nat_le pointer k)) in
+    let late : least n (λ k. nat_le pointer k && false) ≡ None =
+    none-least n (λ k. nat_le pointer k && false) (λ k. and-none (nat_le pointer k)) in
     let all : least n (λ k. false) ≡ None = none-least n (λ k. false) (λ k. refl) in
     rw (late, all) refl
 
-step : (pointer m : ℕ) (grants : ℕ → Option Grant) (g : Grant) (o : Option ℕ) → grants m ≡ Some g → g.channel ≡ m → ((k : ℕ) → o ≡ Some k → IsGrantOf k (grants k))
+step : (pointer m : ℕ) (grants : ℕ → Option Grant) (g : Grant) (o : Option ℕ) → grants m ≡ Some g → g.channel ≡ m
+    → ((k : ℕ) → o ≡ Some k → IsGrantOf k (grants k))
     → Some (better_ask pointer (option_and_then grants o) g) ≡ option_and_then grants (better pointer o m)
 step pointer m grants g None e own have = sym e
 step pointer m grants g (Some k) e own have = go (grants k) refl (have k refl)
@@ -38,7 +41,8 @@ step pointer m grants g (Some k) e own have = go (grants k) refl (have k refl)
     both true b is = sym e
     both false b is = sym is
 
-    go : (f : Option Grant) → grants k ≡ f → IsGrantOf k f → Some (better_ask pointer (grants k) g) ≡ grants (if comes_first pointer m k then m else k)
+    go : (f : Option Grant) → grants k ≡ f → IsGrantOf k f
+        → Some (better_ask pointer (grants k) g) ≡ grants (if comes_first pointer m k then m else k)
     go None is some = absurd some
     go (Some b) is some =
         ap (λ f. Some (better_ask pointer f g)) is
@@ -49,7 +53,8 @@ step pointer m grants g (Some k) e own have = go (grants k) refl (have k refl)
 own-channel : (m : ℕ) (o : Option Grant) (g : Grant) → o ≡ Some g → IsGrantOf m o → g.channel ≡ m
 own-channel m o g e is = let P : Option Grant → Type 0 = IsGrantOf m in subst P e is
 
-pub one-more : (n pointer m : ℕ) (set : ℕ → Bool) (grants : ℕ → Option Grant) (g : Grant) → m < n → HaveGrants n set grants → grants m ≡ Some g → IsGrantOf m (grants m)
+pub one-more : (n pointer m : ℕ) (set : ℕ → Bool) (grants : ℕ → Option Grant) (g : Grant) → m < n
+    → HaveGrants n set grants → grants m ≡ Some g → IsGrantOf m (grants m)
     → Some (better_ask pointer (option_and_then grants (pick n set pointer)) g) ≡ option_and_then grants (pick n (with_member set m) pointer)
 one-more n pointer m set grants g below have e own =
     step pointer m grants g (pick n set pointer) e (own-channel m (grants m) g e own)
@@ -66,7 +71,8 @@ module _ (x : Switch) (p : Plan) (d n : ℕ) (t : ℤ) (s : Tile) (i : TileIn) (
       ∙ pick-same (ports p) (λ port. asks_for (ask_at x d port) o) (λ port. asks_for (asked p d n t s i port) o) (switch_at x d o) (s.switch o)
       (λ k below. ap (λ g. asks_for g o) (as_defined.asks k below)) (as_defined.switches o there)
 
-  chosen-port : (o port : ℕ) → chosen p d n t s i o ≡ Some port → (port < ports p) × (asks_for (asked p d n t s i port) o ≡ true)
+  chosen-port : (o port : ℕ) → chosen p d n t s i o ≡ Some port
+      → (port < ports p) × (asks_for (asked p d n t s i port) o ≡ true)
   unfolding chosen
   chosen-port o port e = pick-member (ports p) (λ k. asks_for (asked p d n t s i k) o) (s.switch o) port e
 
@@ -77,15 +83,19 @@ module _ (x : Switch) (p : Plan) (d n : ℕ) (t : ℤ) (s : Tile) (i : TileIn) (
   own-port : (port : ℕ) (g : Grant) → to_port (Some port) port g ≡ Some g
   own-port port g = let e : (port == port) ≡ true = grind (arith, nat_tests) in ap (λ b. if b then Some g else None) e
 
-  pub granted-is : (o : ℕ) (r : Granted) → o < ports p → granted_in x d o ≡ Some r → grant p d n t s i r.port ≡ Some r.grant
+  pub granted-is : (o : ℕ) (r : Granted) → o < ports p → granted_in x d o ≡ Some r
+      → grant p d n t s i r.port ≡ Some r.grant
   unfolding grant
   granted-is o r there e = go (chosen p d n t s i o) refl
     where
-      go : (c : Option ℕ) → chosen p d n t s i o ≡ c → option_and_then (λ g. to_port (chosen p d n t s i g.out) r.port g) (asked p d n t s i r.port) ≡ Some r.grant
-      go None is = absurd (let bad : None ≡ Some r = sym (ap (option_and_then (granted_to x d)) (chosen-is o there ∙ is)) ∙ e in cc bad)
+      go : (c : Option ℕ) → chosen p d n t s i o ≡ c
+          → option_and_then (λ g. to_port (chosen p d n t s i g.out) r.port g) (asked p d n t s i r.port) ≡ Some r.grant
+      go None is =
+          absurd (let bad : None ≡ Some r = sym (ap (option_and_then (granted_to x d)) (chosen-is o there ∙ is)) ∙ e in cc bad)
       go (Some port) is = asks (ask_at x d port) refl
         where
-          asks : (a : Option Grant) → ask_at x d port ≡ a → option_and_then (λ g. to_port (chosen p d n t s i g.out) r.port g) (asked p d n t s i r.port) ≡ Some r.grant
+          asks : (a : Option Grant) → ask_at x d port ≡ a
+              → option_and_then (λ g. to_port (chosen p d n t s i g.out) r.port g) (asked p d n t s i r.port) ≡ Some r.grant
           asks None at = absurd (let bad : None ≡ Some r = sym (ap (option_and_then (granted_to x d)) (chosen-is o there ∙ is) ∙ ap (option_map (λ g. let w : Granted = record { port = port; grant = g } in w)) at) ∙ e in cc bad)
           asks (Some g) at =
               let w : Granted = record { port = port; grant = g } in
@@ -93,7 +103,8 @@ module _ (x : Switch) (p : Plan) (d n : ℕ) (t : ℤ) (s : Tile) (i : TileIn) (
               let found = chosen-port o port is in
               let asked_is : asked p d n t s i port ≡ Some g = sym (as_defined.asks port found.0) ∙ at in
               let out : g.out ≡ o = out-is (asked p d n t s i port) g o asked_is found.1 in
-              let P : Granted → Type 0 = λ v. option_and_then (λ g. to_port (chosen p d n t s i g.out) v.port g) (asked p d n t s i v.port) ≡ Some v.grant in
+              let P : Granted → Type 0 =
+              λ v. option_and_then (λ g. to_port (chosen p d n t s i g.out) v.port g) (asked p d n t s i v.port) ≡ Some v.grant in
               subst P same
               (ap (option_and_then (λ g. to_port (chosen p d n t s i g.out) port g)) asked_is
               ∙ ap (λ k. to_port (chosen p d n t s i k) port g) out ∙ ap (λ c. to_port c port g) is ∙ own-port port g)
@@ -106,14 +117,19 @@ module _ (x : Switch) (p : Plan) (d n : ℕ) (t : ℤ) (s : Tile) (i : TileIn) (
   port-is None port g h e = absurd (cc e)
   port-is (Some k) port g h e = let both = if-some (k == port) g h e in let at : k ≡ port = grind (arith, nat_tests) in (ap Some at, both.1)
 
-  pub grant-granted : (port : ℕ) (g : Grant) → port < ports p → g.out < ports p → grant p d n t s i port ≡ Some g → granted_in x d g.out ≡ Some (record { port = port; grant = g })
+  pub grant-granted : (port : ℕ) (g : Grant) → port < ports p → g.out < ports p → grant p d n t s i port ≡ Some g
+      → granted_in x d g.out ≡ Some (record { port = port; grant = g })
   unfolding grant
   grant-granted port g there out e = go (asked p d n t s i port) refl
     where
-      go : (a : Option Grant) → asked p d n t s i port ≡ a → granted_in x d g.out ≡ Some (record { port = port; grant = g })
-      go None is = absurd (let bad : None ≡ Some g = sym (ap (option_and_then (λ h. to_port (chosen p d n t s i h.out) port h)) is) ∙ e in cc bad)
+      go : (a : Option Grant) → asked p d n t s i port ≡ a
+          → granted_in x d g.out ≡ Some (record { port = port; grant = g })
+      go None is =
+          absurd (let bad : None ≡ Some g = sym (ap (option_and_then (λ h. to_port (chosen p d n t s i h.out) port h)) is) ∙ e in cc bad)
       go (Some h) is =
-          let both = port-is (chosen p d n t s i h.out) port h g (sym (ap (option_and_then (λ h. to_port (chosen p d n t s i h.out) port h)) is) ∙ e) in
+          let both =
+          port-is (chosen p d n t s i h.out) port h g (sym (ap (option_and_then (λ h. to_port (chosen p d n t s i h.out) port h)) is) ∙ e) in
           let asks : ask_at x d port ≡ Some g = as_defined.asks port there ∙ is ∙ ap Some both.1 in
-          let picked : chosen_in x d g.out ≡ Some port = chosen-is g.out out ∙ ap (λ (w : Grant). chosen p d n t s i w.out) (sym both.1) ∙ both.0 in
+          let picked : chosen_in x d g.out ≡ Some port =
+          chosen-is g.out out ∙ ap (λ (w : Grant). chosen p d n t s i w.out) (sym both.1) ∙ both.0 in
           ap (option_and_then (granted_to x d)) picked ∙ ap (option_map (λ g. let w : Granted = record { port = port; grant = g } in w)) asks

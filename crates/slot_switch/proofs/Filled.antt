@@ -11,15 +11,19 @@ use Rattle.vc_partition.specs.Lanes.{lane}
 use Rattle.slot_switch.proofs.Asks.{map-lanes}
 
 -- lanes of these lengths
-pub filled-is : {T : Type 0} (x : T) (f : ℕ → ℕ) (n : ℕ) (counts : List ℕ) (v : List (List T)) → v ≡ map (λ c. replicate c x) counts
+pub filled-is : {T : Type 0} (x : T) (f : ℕ → ℕ) (n : ℕ) (counts : List ℕ) (v : List (List T))
+    → v ≡ map (λ c. replicate c x) counts
     → counts ≡ map f (range_with_len 0 n) → v ≡ map (λ d. replicate (f d) x) (range_with_len 0 n)
 filled-is x f n counts v is are = is ∙ ap (map (λ c. replicate c x)) are ∙ map-lanes f x (range_with_len 0 n)
 
-pub filled-lane : {T : Type 0} (x : T) (f : ℕ → ℕ) (n : ℕ) (v : List (List T)) (d : ℕ) → v ≡ map (λ d. replicate (f d) x) (range_with_len 0 n)
+pub filled-lane : {T : Type 0} (x : T) (f : ℕ → ℕ) (n : ℕ) (v : List (List T)) (d : ℕ)
+    → v ≡ map (λ d. replicate (f d) x) (range_with_len 0 n)
     → d < n → lane v d ≡ replicate (f d) x
-filled-lane x f n v d is there = ap (λ w. lane w d) is ∙ get_or-map-range_with_len (λ e. replicate (f e) x) 0 n d d [] there (omega arith)
+filled-lane x f n v d is there =
+    ap (λ w. lane w d) is ∙ get_or-map-range_with_len (λ e. replicate (f e) x) 0 n d d [] there (omega arith)
 
-pub filled-places : {T : Type 0} (x : T) (f : ℕ → ℕ) (n : ℕ) (counts : List ℕ) (v : List (List T)) (d : ℕ) → v ≡ map (λ c. replicate c x) counts
+pub filled-places : {T : Type 0} (x : T) (f : ℕ → ℕ) (n : ℕ) (counts : List ℕ) (v : List (List T)) (d : ℕ)
+    → v ≡ map (λ c. replicate c x) counts
     → counts ≡ map f (range_with_len 0 n) → d < n → (d < length v) × (length (lane v d) ≡ f d)
 filled-places x f n counts v d made are there =
     let is = filled-is x f n counts v made are in
@@ -45,7 +49,8 @@ two-channels p e d there =
     go (suc zero) less = (lit< tt, lit< tt)
     go (suc (suc k)) less = absurd (omega (arith, less))
 
-pub two-routed : (p : Plan) (d o w : ℕ) → (1 < ports p) × (0 < link_channels p d) → Active 1 0 ≡ Active o w → (o < ports p) × (w < link_channels p d)
+pub two-routed : (p : Plan) (d o w : ℕ) → (1 < ports p) × (0 < link_channels p d) → Active 1 0 ≡ Active o w
+    → (o < ports p) × (w < link_channels p d)
 two-routed p d o w bounds e =
     let same_o : 1 ≡ o = cc e in
     let same_w : 0 ≡ w = cc e in

@@ -21,13 +21,15 @@ use Rattle.slot_switch.proofs.Asking.{lane-start, lane-then, lane-set}
 no-chosen : (x : Switch) (d o : ℕ) → granted_in x d o ≡ None → chosen_in x d o ≡ None
 no-chosen x d o none = go (chosen_in x d o) refl
   where
-    asks : (port : ℕ) (a : Option Grant) → ask_at x d port ≡ a → asks_for a o ≡ true → chosen_in x d o ≡ Some port → chosen_in x d o ≡ None
+    asks : (port : ℕ) (a : Option Grant) → ask_at x d port ≡ a → asks_for a o ≡ true → chosen_in x d o ≡ Some port
+        → chosen_in x d o ≡ None
     asks port None at asked is = absurd (cc asked)
     asks port (Some g) at asked is = absurd (let bad = sym none ∙ ap (option_and_then (granted_to x d)) is ∙ ap (option_map (λ g. let w : Granted = record { port = port; grant = g } in w)) at in cc bad)
 
     go : (c : Option ℕ) → chosen_in x d o ≡ c → chosen_in x d o ≡ None
     go None is = is
-    go (Some port) is = asks port (ask_at x d port) refl (pick-member x.ports (λ k. asks_for (ask_at x d k) o) (switch_at x d o) port is).1 is
+    go (Some port) is =
+        asks port (ask_at x d port) refl (pick-member x.ports (λ k. asks_for (ask_at x d k) o) (switch_at x d o) port is).1 is
 
 -- what is known of a grant
 pub record IsGrant (x : Switch) (d o : ℕ) (r : Granted) : Type 0 where
@@ -39,7 +41,8 @@ pub record IsGrant (x : Switch) (d o : ℕ) (r : Granted) : Type 0 where
 pub is-grant : (x : Switch) (d o : ℕ) (r : Granted) → granted_in x d o ≡ Some r → IsGrant x d o r
 is-grant x d o r some = go (chosen_in x d o) refl
   where
-    asks : (port : ℕ) (a : Option Grant) → ask_at x d port ≡ a → asks_for a o ≡ true → port < x.ports → chosen_in x d o ≡ Some port → IsGrant x d o r
+    asks : (port : ℕ) (a : Option Grant) → ask_at x d port ≡ a → asks_for a o ≡ true → port < x.ports
+        → chosen_in x d o ≡ Some port → IsGrant x d o r
     asks port None at asked less is = absurd (cc asked)
     asks port (Some g) at asked less is =
         let w : Granted = record { port = port; grant = g } in
@@ -50,29 +53,35 @@ is-grant x d o r some = go (chosen_in x d o) refl
 
     go : (c : Option ℕ) → chosen_in x d o ≡ c → IsGrant x d o r
     go None is = absurd (let bad : None ≡ Some r = sym (ap (option_and_then (granted_to x d)) is) ∙ some in cc bad)
-    go (Some port) is = let member = pick-member x.ports (λ k. asks_for (ask_at x d k) o) (switch_at x d o) port is in asks port (ask_at x d port) refl member.1 member.0 is
+    go (Some port) is =
+        let member = pick-member x.ports (λ k. asks_for (ask_at x d k) o) (switch_at x d o) port is in
+        asks port (ask_at x d port) refl member.1 member.0 is
 
 -- ---- the outputs below another
 
 below-zero : (x : Switch) (d k : ℕ) → granted_below 0 x d k ≡ None
 below-zero x d k = go (ask_at x d k)
   where
-    go : (a : Option Grant) → option_and_then (λ g. if nat_lt g.out 0 then to_port (chosen_in x d g.out) k g else None) a ≡ None
+    go : (a : Option Grant)
+        → option_and_then (λ g. if nat_lt g.out 0 then to_port (chosen_in x d g.out) k g else None) a ≡ None
     go None = refl
     go (Some g) = let no : nat_lt g.out 0 ≡ false = grind (arith, nat_tests) in ap (λ b. if b then to_port (chosen_in x d g.out) k g else None) no
 
 -- an output that doesn't pick the port
-below-keep : (x : Switch) (d k o : ℕ) → ((g : Grant) → to_port (chosen_in x d o) k g ≡ None) → granted_below (o + 1) x d k ≡ granted_below o x d k
+below-keep : (x : Switch) (d k o : ℕ) → ((g : Grant) → to_port (chosen_in x d o) k g ≡ None)
+    → granted_below (o + 1) x d k ≡ granted_below o x d k
 below-keep x d k o not = go (ask_at x d k)
   where
-    go : (a : Option Grant) → option_and_then (λ g. if nat_lt g.out (o + 1) then to_port (chosen_in x d g.out) k g else None) a
+    go : (a : Option Grant)
+        → option_and_then (λ g. if nat_lt g.out (o + 1) then to_port (chosen_in x d g.out) k g else None) a
         ≡ option_and_then (λ g. if nat_lt g.out o then to_port (chosen_in x d g.out) k g else None) a
     go None = refl
     go (Some g) = ⊎_elim
         (λ (e : g.out ≡ o).
         let yes : nat_lt g.out (o + 1) ≡ true = grind (arith, nat_tests) in
         let no : nat_lt g.out o ≡ false = grind (arith, nat_tests) in
-        ap (λ b. if b then to_port (chosen_in x d g.out) k g else None) yes ∙ ap (λ j. to_port (chosen_in x d j) k g) e ∙ not g
+        ap (λ b. if b then to_port (chosen_in x d g.out) k g else None) yes ∙ ap (λ j. to_port (chosen_in x d j) k g) e
+        ∙ not g
         ∙ sym (ap (λ b. if b then to_port (chosen_in x d g.out) k g else None) no))
         (λ (apart : g.out ≢ o).
         let same : nat_lt g.out (o + 1) ≡ nat_lt g.out o = grind (arith, nat_tests) in
@@ -80,12 +89,14 @@ below-keep x d k o not = go (ask_at x d k)
         (cases_eq g.out o)
 
 -- the port that an output picks
-below-take : (x : Switch) (d k o : ℕ) (g : Grant) → ask_at x d k ≡ Some g → g.out ≡ o → chosen_in x d o ≡ Some k → granted_below (o + 1) x d k ≡ Some g
+below-take : (x : Switch) (d k o : ℕ) (g : Grant) → ask_at x d k ≡ Some g → g.out ≡ o → chosen_in x d o ≡ Some k
+    → granted_below (o + 1) x d k ≡ Some g
 below-take x d k o g at out is =
     let yes : nat_lt g.out (o + 1) ≡ true = grind (arith, nat_tests) in
     let own : (k == k) ≡ true = grind (arith, nat_tests) in
     ap (option_and_then (λ g. if nat_lt g.out (o + 1) then to_port (chosen_in x d g.out) k g else None)) at
-    ∙ ap (λ b. if b then to_port (chosen_in x d g.out) k g else None) yes ∙ ap (λ j. to_port (chosen_in x d j) k g) out ∙ ap (λ c. to_port c k g) is
+    ∙ ap (λ b. if b then to_port (chosen_in x d g.out) k g else None) yes ∙ ap (λ j. to_port (chosen_in x d j) k g) out
+    ∙ ap (λ c. to_port c k g) is
     ∙ ap (λ b. if b then Some g else None) own
 
 other-port : (j k : ℕ) (g : Grant) → k ≢ j → to_port (Some j) k g ≡ None
@@ -107,7 +118,8 @@ switch-other x d k o apart =
 
 -- ---- one more output
 
-pub have-start : (x : Switch) (u : List (List (Option Grant))) (d : ℕ) → ((k : ℕ) → k < x.ports → slice_get (lane u d) k ≡ Some None) → HaveGranted x x u u d 0
+pub have-start : (x : Switch) (u : List (List (Option Grant))) (d : ℕ)
+    → ((k : ℕ) → k < x.ports → slice_get (lane u d) k ≡ Some None) → HaveGranted x x u u d 0
 have-start x u d none = record {
   rest = refl;
   given = λ k there. none k there ∙ ap Some (sym (below-zero x d k));
@@ -125,12 +137,15 @@ module _ (x y : Switch) (u w : List (List (Option Grant))) (d o : ℕ) (there : 
       ∙ ap (pick x.ports (λ port. asks_for (ask_at x d port) o)) (have.picked o there ∙ switch-own x d o)
 
   pub same-granted : granted_in y d o ≡ granted_in x d o
-  same-granted = ap (option_and_then (granted_to y d)) same-chosen ∙ ap (λ (v : Switch). option_and_then (granted_to v d) (chosen_in x d o)) have.rest
+  same-granted =
+      ap (option_and_then (granted_to y d)) same-chosen
+      ∙ ap (λ (v : Switch). option_and_then (granted_to v d) (chosen_in x d o)) have.rest
 
   nothing : granted_in y d o ≡ None → HaveGranted x y u w d (o + 1)
   nothing none =
       let chosen : chosen_in x d o ≡ None = no-chosen x d o (sym same-granted ∙ none) in
-      let keep : (k : ℕ) → granted_below (o + 1) x d k ≡ granted_below o x d k = λ k. below-keep x d k o (λ g. ap (λ c. to_port c k g) chosen) in
+      let keep : (k : ℕ) → granted_below (o + 1) x d k ≡ granted_below o x d k =
+      λ k. below-keep x d k o (λ g. ap (λ c. to_port c k g) chosen) in
       record {
         rest = have.rest;
         given = λ k less. have.given k less ∙ ap Some (sym (keep k));
@@ -146,7 +161,8 @@ module _ (x y : Switch) (u w : List (List (Option Grant))) (d o : ℕ) (there : 
         grants = have.grants;
       }
 
-  pub have-none : (z : Switch) → granted_in y d o ≡ None → z ≡ moved y d o (granted_in y d o) → HaveGranted x z u w d (o + 1)
+  pub have-none : (z : Switch) → granted_in y d o ≡ None → z ≡ moved y d o (granted_in y d o)
+      → HaveGranted x z u w d (o + 1)
   have-none z none made =
       let P : Switch → Type 0 = λ v. HaveGranted x v u w d (o + 1) in
       subst P (sym (made ∙ ap (moved y d o) none)) (nothing none)
@@ -159,7 +175,11 @@ module _ (x y : Switch) (u w : List (List (Option Grant))) (d o : ℕ) (there : 
     turns_there = let a = have.turns.domains in let b = whole.turns in omega (arith, a, b, domain)
 
     turn_there : r.port < length (lane y.turns d)
-    turn_there = let a = have.turns.places in let b = whole.turn_places d domain in let c = is.below in omega (arith, a, b, c)
+    turn_there =
+        let a = have.turns.places in
+        let b = whole.turn_places d domain in
+        let c = is.below in
+        omega (arith, a, b, c)
 
     switches_there : d < length y.switches
     switches_there = let a = have.switches.domains in let b = whole.switches in omega (arith, a, b, domain)
@@ -225,7 +245,8 @@ module _ (x y : Switch) (u w : List (List (Option Grant))) (d o : ℕ) (there : 
       grants = lane-then u w put d have.grants (lane-set w d r.port (Some r.grant) grants_there);
     }
 
-    pub have-some : (z : Switch) (v : List (List (Option Grant))) → z ≡ moved y d o (granted_in y d o) → v ≡ slice_set w d (slice_set (lane w d) r.port (Some r.grant))
+    pub have-some : (z : Switch) (v : List (List (Option Grant))) → z ≡ moved y d o (granted_in y d o)
+        → v ≡ slice_set w d (slice_set (lane w d) r.port (Some r.grant))
         → HaveGranted x z u v d (o + 1)
     have-some z v made set =
         let P : Switch → Type 0 = λ a. HaveGranted x a u put d (o + 1) in

@@ -25,7 +25,8 @@ pub output-link : (p : Plan) (n o : ℕ) → o ≢ 0 → IsOutput p n o → (m :
 output-link p n o apart (inl e) = absurd (apart e)
 output-link p n o apart (inr e) = some-is (neighbour p n o) e
 
-pub takes-local : (p : Plan) (d n t o w : ℕ) (s : Tile) (i : TileIn) (credits : List (List ℕ)) (room : List Bool) → o ≡ 0 → AreOutputs p d s i credits room
+pub takes-local : (p : Plan) (d n t o w : ℕ) (s : Tile) (i : TileIn) (credits : List (List ℕ)) (room : List Bool)
+    → o ≡ 0 → AreOutputs p d s i credits room
     → slice_index_or room d false ≡ takes p d n (pos t) s i o w
 unfolding takes
 takes-local p d n t o w s i credits room local shown =
@@ -33,18 +34,22 @@ takes-local p d n t o w s i credits room local shown =
     ∙ sym (ap (λ k. at_local k (is_none s.ejected || i.hears) ((owner p n o (pos t) == d) && nat_lt 0 (s.credits o w))) local)
 
 -- a link of the domain itself
-pub takes-own : (p : Plan) (d n t o w k x b : ℕ) (s : Tile) (i : TileIn) (credits : List (List ℕ)) (room : List Bool) → o ≢ 0 → o < ports p → w < link_channels p d
-    → AreOutputs p d s i credits room → b ≡ owner p n o (pos t) → b ≡ d → k ≡ place p d o w → slice_get (lane credits d) k ≡ Some x
+pub takes-own : (p : Plan) (d n t o w k x b : ℕ) (s : Tile) (i : TileIn) (credits : List (List ℕ)) (room : List Bool)
+    → o ≢ 0 → o < ports p → w < link_channels p d
+    → AreOutputs p d s i credits room → b ≡ owner p n o (pos t) → b ≡ d → k ≡ place p d o w
+    → slice_get (lane credits d) k ≡ Some x
     → nat_lt 0 x ≡ takes p d n (pos t) s i o w
 unfolding takes
 takes-own p d n t o w k x b s i credits room apart inside channel shown owns is at there =
     let own : (owner p n o (pos t) == d) ≡ true = let e : owner p n o (pos t) ≡ d = sym owns ∙ is in grind (arith, nat_tests) in
-    let same : x ≡ s.credits o w = cc (sym there ∙ ap (slice_get (lane credits d)) at ∙ shown.credit o w inside apart channel) in
+    let same : x ≡ s.credits o w =
+    cc (sym there ∙ ap (slice_get (lane credits d)) at ∙ shown.credit o w inside apart channel) in
     ap (nat_lt 0) same ∙ sym (ap (λ q. q && nat_lt 0 (s.credits o w)) own)
     ∙ sym (away o (is_none s.ejected || i.hears) ((owner p n o (pos t) == d) && nat_lt 0 (s.credits o w)) apart)
 
 -- a link of another domain
-pub takes-other : (p : Plan) (d n t o w b : ℕ) (s : Tile) (i : TileIn) → o ≢ 0 → b ≡ owner p n o (pos t) → b ≢ d → (b == d) ≡ takes p d n (pos t) s i o w
+pub takes-other : (p : Plan) (d n t o w b : ℕ) (s : Tile) (i : TileIn) → o ≢ 0 → b ≡ owner p n o (pos t) → b ≢ d
+    → (b == d) ≡ takes p d n (pos t) s i o w
 unfolding takes
 takes-other p d n t o w b s i apart owns not =
     let no : (b == d) ≡ false = grind (arith, nat_tests) in

@@ -23,7 +23,8 @@ same-self : (x : Switch) (d : ℕ) → SameDomain x x d
 same-self x d = record { asks = refl; turns = refl; switches = refl }
 
 same-other : (x y : Switch) (d e : ℕ) → OnlyDomain x y d → e ≢ d → SameDomain x y e
-same-other x y d e only apart = record { asks = only.asks.others e apart; turns = only.turns.others e apart; switches = only.switches.others e apart }
+same-other x y d e only apart =
+    record { asks = only.asks.others e apart; turns = only.turns.others e apart; switches = only.switches.others e apart }
 
 same-then : (x y z : Switch) (d : ℕ) → SameDomain x y d → SameDomain y z d → SameDomain x z d
 same-then x y z d a b = record { asks = b.asks ∙ a.asks; turns = b.turns ∙ a.turns; switches = b.switches ∙ a.switches }
@@ -39,7 +40,8 @@ back : (x y : Switch) (d : ℕ) → SameDomain x y d → SameDomain y x d
 back x y d same = record { asks = sym same.asks; turns = sym same.turns; switches = sym same.switches }
 
 -- what a domain was granted depends on its lanes alone
-switched-same : (x x' y y' : Switch) (u u' : List (List (Option Grant))) (p : Plan) (d : ℕ) (wheel : Wheel) (stages : List (List Stage))
+switched-same : (x x' y y' : Switch) (u u' : List (List (Option Grant))) (p : Plan) (d : ℕ) (wheel : Wheel)
+    (stages : List (List Stage))
     (fronts : List (List (Option Flit))) (credits : List (List ℕ)) (room : List Bool) → SameDomain x x' d → SameDomain y y' d → lane u' d ≡ lane u d
     → HasSwitched x y p d wheel stages fronts credits room u → HasSwitched x' y' p d wheel stages fronts credits room u'
 switched-same x x' y y' u u' p d wheel stages fronts credits room before after grants is = record {
@@ -67,7 +69,8 @@ step-start x u p wheel stages fronts credits room made grants = record {
   grants = grants;
 }
 
-pub step-next : (x y z : Switch) (u v w : List (List (Option Grant))) (p : Plan) (m : ℕ) (wheel : Wheel) (stages : List (List Stage))
+pub step-next : (x y z : Switch) (u v w : List (List (Option Grant))) (p : Plan) (m : ℕ) (wheel : Wheel)
+    (stages : List (List Stage))
     (fronts : List (List (Option Flit))) (credits : List (List ℕ)) (room : List Bool) → AreStepping x y u v p m wheel stages fronts credits room
     → HasSwitched y z p m wheel stages fronts credits room w → IsFor z p → OnlyDomain y z m → OnlyLane v w m
     → AreStepping x z u w p (m + 1) wheel stages fronts credits room

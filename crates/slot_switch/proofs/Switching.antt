@@ -32,9 +32,11 @@ pub record AreAsking (x y : Switch) (p : Plan) (d m : ℕ) (wheel : Wheel) (stag
       → (k : ℕ) → k < m → ask_at y d k ≡ asked p d n (pos t) s i k
 
 still-for : (x y : Switch) (p : Plan) (d : ℕ) → OnlyAsks x d y → IsFor x p → IsFor y p
-still-for x y p d only made = record { domains = only.asks.domains ∙ made.domains; port_count = ap (λ (v : Switch). v.ports) only.rest ∙ made.port_count }
+still-for x y p d only made =
+    record { domains = only.asks.domains ∙ made.domains; port_count = ap (λ (v : Switch). v.ports) only.rest ∙ made.port_count }
 
-pub are-start : (x : Switch) (p : Plan) (d : ℕ) (wheel : Wheel) (stages : List (List Stage)) (fronts : List (List (Option Flit)))
+pub are-start : (x : Switch) (p : Plan) (d : ℕ) (wheel : Wheel) (stages : List (List Stage))
+    (fronts : List (List (Option Flit)))
     (credits : List (List ℕ)) (room : List Bool) → IsFor x p → AreAsking x x p d 0 wheel stages fronts credits room
 are-start x p d wheel stages fronts credits room made = record {
   only = only-start x d;
@@ -42,7 +44,8 @@ are-start x p d wheel stages fronts credits room made = record {
   asking = λ n t s i shown keeps k less. absurd (omega (arith, less));
 }
 
-pub are-next : (x y z : Switch) (p : Plan) (d m : ℕ) (wheel : Wheel) (stages : List (List Stage)) (fronts : List (List (Option Flit)))
+pub are-next : (x y z : Switch) (p : Plan) (d m : ℕ) (wheel : Wheel) (stages : List (List Stage))
+    (fronts : List (List (Option Flit)))
     (credits : List (List ℕ)) (room : List Bool) → m < ports p
     → ((n t : ℕ) (s : Tile) (i : TileIn) → IsShown p d n t s i wheel stages fronts credits room → turn_at y d m ≡ s.turn m → ask_at z d m ≡ asked p d n (pos t) s i m)
     → OnlyAsks y d z → ((k : ℕ) → k ≢ m → ask_at z d k ≡ ask_at y d k)
@@ -58,12 +61,15 @@ are-next x y z p d m wheel stages fronts credits room inside here only others ar
 
 -- ---- the outputs grant
 
-same-then : (f g : Grant → Option Grant) (o : Option Grant) → ((x : Grant) → o ≡ Some x → f x ≡ g x) → option_and_then f o ≡ option_and_then g o
+same-then : (f g : Grant → Option Grant) (o : Option Grant) → ((x : Grant) → o ≡ Some x → f x ≡ g x)
+    → option_and_then f o ≡ option_and_then g o
 same-then f g None same = refl
 same-then f g (Some x) same = same x refl
 
-granted-is : (y : Switch) (p : Plan) (d n : ℕ) (t : ℤ) (s : Tile) (i : TileIn) (stages : List (List Stage)) (fronts : List (List (Option Flit))) (k : ℕ)
-    → AsksAs y p d n t s i → AreChannels p d n s stages fronts → k < ports p → granted_below y.ports y d k ≡ grant p d n t s i k
+granted-is : (y : Switch) (p : Plan) (d n : ℕ) (t : ℤ) (s : Tile) (i : TileIn) (stages : List (List Stage))
+    (fronts : List (List (Option Flit))) (k : ℕ)
+    → AsksAs y p d n t s i → AreChannels p d n s stages fronts → k < ports p
+    → granted_below y.ports y d k ≡ grant p d n t s i k
 unfolding grant
 granted-is y p d n t s i stages fronts k asks shown there =
     ap (option_and_then (λ g. if nat_lt g.out y.ports then to_port (chosen_in y d g.out) k g else None)) (asks.asks k there)
@@ -87,16 +93,19 @@ step-keeps z p d n t s i turns switches = record { turn = turns; switch = switch
 module _ (x y z : Switch) (u w : List (List (Option Grant))) (p : Plan) (d m : ℕ) (wheel : Wheel) (stages : List (List Stage))
     (fronts : List (List (Option Flit))) (credits : List (List ℕ)) (room : List Bool) (made : IsFor x p) (all : ports p ≤ m)
     (are : AreAsking x y p d m wheel stages fronts credits room) (have : HaveGranted y z u w d y.ports) where
-  asks-as : (n t : ℕ) (s : Tile) (i : TileIn) → IsShown p d n t s i wheel stages fronts credits room → Keeps x p d s → AsksAs y p d n (pos t) s i
+  asks-as : (n t : ℕ) (s : Tile) (i : TileIn) → IsShown p d n t s i wheel stages fronts credits room → Keeps x p d s
+      → AsksAs y p d n (pos t) s i
   asks-as n t s i shown keeps = record {
     port_count = are.made.port_count;
     asks = λ k there. are.asking n t s i shown keeps k (omega (arith, all, there));
     switches = λ o there. ap (λ (v : Switch). switch_at v d o) are.only.rest ∙ keeps.switch o there;
   }
 
-  grants-are : (n t : ℕ) (s : Tile) (i : TileIn) → IsShown p d n t s i wheel stages fronts credits room → Keeps x p d s → (k : ℕ) → k < ports p
+  grants-are : (n t : ℕ) (s : Tile) (i : TileIn) → IsShown p d n t s i wheel stages fronts credits room → Keeps x p d s
+      → (k : ℕ) → k < ports p
       → granted_below y.ports y d k ≡ grant p d n (pos t) s i k
-  grants-are n t s i shown keeps k there = granted-is y p d n (pos t) s i stages fronts k (asks-as n t s i shown keeps) shown.channels there
+  grants-are n t s i shown keeps k there =
+      granted-is y p d n (pos t) s i stages fronts k (asks-as n t s i shown keeps) shown.channels there
 
   within : (k : ℕ) → k < ports p → k < y.ports
   within k there = let e = are.made.port_count in omega (arith, e, there)

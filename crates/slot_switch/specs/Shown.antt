@@ -25,22 +25,28 @@ module _ {T : Type 0} where
 
 -- the packets of domain d go by ports and channels that a plan has
 abbrev pub AreRouted : Plan → ℕ → List (List Stage) → Type 0
-AreRouted p d stages = (k o w : ℕ) → slice_get (lane stages d) k ≡ Some (Active o w) → (o < ports p) × (w < link_channels p d)
+AreRouted p d stages = (k o w : ℕ) → slice_get (lane stages d) k ≡ Some (Active o w)
+    → (o < ports p) × (w < link_channels p d)
 
 -- the input channels of domain d are those of the tile s
-pub record AreChannels (p : Plan) (d n : ℕ) (s : Tile) (stages : List (List Stage)) (fronts : List (List (Option Flit))) : Type 0 where
-  pub stage : (port c : ℕ) → port < ports p → c < in_channels p d port → slice_get (lane stages d) (place p d port c) ≡ Some (s.stage port c)
-  pub flit : (port c : ℕ) → port < ports p → c < in_channels p d port → slice_get (lane fronts d) (place p d port c) ≡ Some (front (s.queue port c))
+pub record AreChannels (p : Plan) (d n : ℕ) (s : Tile) (stages : List (List Stage))
+    (fronts : List (List (Option Flit))) : Type 0 where
+  pub stage : (port c : ℕ) → port < ports p → c < in_channels p d port
+      → slice_get (lane stages d) (place p d port c) ≡ Some (s.stage port c)
+  pub flit : (port c : ℕ) → port < ports p → c < in_channels p d port
+      → slice_get (lane fronts d) (place p d port c) ≡ Some (front (s.queue port c))
   pub output : (port c : ℕ) → port < ports p → c < in_channels p d port → HasOutput p d n (s.stage port c)
 
 -- the credits of its outputs are those of the tile, and the room says that the ejection place is empty or heard
-pub record AreOutputs (p : Plan) (d : ℕ) (s : Tile) (i : TileIn) (credits : List (List ℕ)) (room : List Bool) : Type 0 where
-  pub credit : (o w : ℕ) → o < ports p → o ≢ 0 → w < link_channels p d → slice_get (lane credits d) (place p d o w) ≡ Some (s.credits o w)
+pub record AreOutputs (p : Plan) (d : ℕ) (s : Tile) (i : TileIn) (credits : List (List ℕ))
+    (room : List Bool) : Type 0 where
+  pub credit : (o w : ℕ) → o < ports p → o ≢ 0 → w < link_channels p d
+      → slice_get (lane credits d) (place p d o w) ≡ Some (s.credits o w)
   pub ejection : slice_get room d ≡ Some (is_none s.ejected || i.hears)
 
 -- the lists and the wheel show domain d of tile n in cycle t
-pub record IsShown (p : Plan) (d n t : ℕ) (s : Tile) (i : TileIn) (wheel : Wheel) (stages : List (List Stage)) (fronts : List (List (Option Flit)))
-    (credits : List (List ℕ)) (room : List Bool) : Type 0 where
+pub record IsShown (p : Plan) (d n t : ℕ) (s : Tile) (i : TileIn) (wheel : Wheel) (stages : List (List Stage))
+    (fronts : List (List (Option Flit))) (credits : List (List ℕ)) (room : List Bool) : Type 0 where
   pub cycle : Stands wheel p n t
   pub channels : AreChannels p d n s stages fronts
   pub outputs : AreOutputs p d s i credits room
@@ -61,11 +67,13 @@ pub record Keeps (x : Switch) (p : Plan) (d : ℕ) (s : Tile) : Type 0 where
 
 -- The switch x has become y for domain d, with these grants: where it kept the pointers of a tile, it asked and granted
 -- what the definition asks for and grants, and keeps the pointers of the tile after its step.
-pub record HasSwitched (x y : Switch) (p : Plan) (d : ℕ) (wheel : Wheel) (stages : List (List Stage)) (fronts : List (List (Option Flit)))
-    (credits : List (List ℕ)) (room : List Bool) (grants : List (List (Option Grant))) : Type 0 where
+pub record HasSwitched (x y : Switch) (p : Plan) (d : ℕ) (wheel : Wheel) (stages : List (List Stage))
+    (fronts : List (List (Option Flit))) (credits : List (List ℕ)) (room : List Bool)
+    (grants : List (List (Option Grant))) : Type 0 where
   pub asks : (n t : ℕ) (s : Tile) (i : TileIn) → IsShown p d n t s i wheel stages fronts credits room → Keeps x p d s
       → (port : ℕ) → port < ports p → ask_at y d port ≡ asked p d n (pos t) s i port
   pub granted : (n t : ℕ) (s : Tile) (i : TileIn) → IsShown p d n t s i wheel stages fronts credits room → Keeps x p d s
       → (port : ℕ) → port < ports p → slice_get (lane grants d) port ≡ Some (grant p d n (pos t) s i port)
-  pub pointers : (n t : ℕ) (s : Tile) (i : TileIn) → IsShown p d n t s i wheel stages fronts credits room → Keeps x p d s
+  pub pointers : (n t : ℕ) (s : Tile) (i : TileIn) → IsShown p d n t s i wheel stages fronts credits room
+      → Keeps x p d s
       → Keeps y p d (tile_step p d n (pos t) s i)

@@ -28,7 +28,8 @@ held_in-put old new file name put named =
 pub held_in-others : (old new : List MemFile) (file : MemFile) (name other : List ℕ)
     → new ≡ old ++ file ∷ [] → file.name ≡ name → other ≢ name → held_in new other ≡ held_in old other
 held_in-others old new file name other put named differs =
-    let differs' : bytes_eq file.name other ≡ false = not_same (λ e. differs (sym (bytes_eq-same file.name other e) ∙ named)) in
+    let differs' : bytes_eq file.name other ≡ false =
+    not_same (λ e. differs (sym (bytes_eq-same file.name other e) ∙ named)) in
     rw (put, held_in-push old file other, differs') refl
   where
     bytes_eq-same : (xs ys : List ℕ) → bytes_eq xs ys ≡ true → xs ≡ ys
@@ -39,7 +40,8 @@ held_in-others old new file name other put named differs =
     not_same {b = false} h = refl
 
 -- an earlier file keeps its content
-pub content_at-push : (old new : List MemFile) (file : MemFile) (i : ℕ) → new ≡ old ++ file ∷ [] → i < length old → content_at new i ≡ content_at old i
+pub content_at-push : (old new : List MemFile) (file : MemFile) (i : ℕ) → new ≡ old ++ file ∷ [] → i < length old
+    → content_at new i ≡ content_at old i
 content_at-push old new file i put before =
     let found : slice_get new i ≡ slice_get old i = grind (arith, common_steps, gets) in
     ap (λ o. option_map_or (λ (f : MemFile). f.content) o []) found
@@ -48,7 +50,8 @@ content_at-push old new file i put before =
 pub left-put : (opened : Bool) (taken i : ℕ) (old new : List MemFile) (file : MemFile)
     → (opened ≡ true → i < length old) → new ≡ old ++ file ∷ []
     → (if opened then Some (drop taken (content_at new i)) else None) ≡ (if opened then Some (drop taken (content_at old i)) else None)
-left-put true taken i old new file in_range put = ap (λ content. Some (drop taken content)) (content_at-push old new file i put (in_range refl))
+left-put true taken i old new file in_range put =
+    ap (λ content. Some (drop taken content)) (content_at-push old new file i put (in_range refl))
 left-put false taken i old new file in_range put = refl
 
 -- the first files and the next one
@@ -70,8 +73,10 @@ IsLast-same files name n file before is named =
 
 -- the next file has another name
 pub IsLast-differs : (files : List MemFile) (name : List ℕ) (n : ℕ) (file : MemFile) (found : Option ℕ)
-    → n < length files → slice_get files n ≡ Some file → name ≢ file.name → IsLast files name n found → IsLast files name (n + 1) found
+    → n < length files → slice_get files n ≡ Some file → name ≢ file.name → IsLast files name n found
+    → IsLast files name (n + 1) found
 IsLast-differs files name n file None before is differs last =
-    held_in-others (take n files) (take (n + 1) files) file file.name name (take_next files n file before is) refl differs ∙ last
+    held_in-others (take n files) (take (n + 1) files) file file.name name (take_next files n file before is) refl differs
+    ∙ last
 IsLast-differs files name n file (Some k) before is differs last =
     (last.0, held_in-others (take n files) (take (n + 1) files) file file.name name (take_next files n file before is) refl differs ∙ last.1)

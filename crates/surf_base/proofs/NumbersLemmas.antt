@@ -9,13 +9,15 @@ use Rattle.std.specs.Char.{digit_value}
 use Rattle.std.specs.Str.Parse.{AllDigits, digits_value}
 
 -- each byte of digits is a digit
-pub AllDigits-at : (radix : ℕ) (bytes : List ℕ) (i : ℕ) → i < length bytes → AllDigits radix bytes → digit_value (get_or bytes i 0) < radix
+pub AllDigits-at : (radix : ℕ) (bytes : List ℕ) (i : ℕ) → i < length bytes → AllDigits radix bytes
+    → digit_value (get_or bytes i 0) < radix
 AllDigits-at radix [] i within all = absurd (omega arith)
 AllDigits-at radix (c ∷ cs) zero within all = all.0
 AllDigits-at radix (c ∷ cs) (suc i) within all = AllDigits-at radix cs i (omega arith) all.1
 
 -- at most 10 digits of a radix up to 16 write a number below 2 to the 40
-pub digits_value-small : (radix : ℕ) (bytes : List ℕ) → 1 ≤ radix → radix ≤ 16 → length bytes ≤ 10 → AllDigits radix bytes → digits_value radix bytes < 2 ^ 40
+pub digits_value-small : (radix : ℕ) (bytes : List ℕ) → 1 ≤ radix → radix ≤ 16 → length bytes ≤ 10
+    → AllDigits radix bytes → digits_value radix bytes < 2 ^ 40
 digits_value-small radix bytes low high short all =
     let below = digits_value-lt radix bytes all in
     let longer : radix ^ length bytes ≤ radix ^ 10 = pow-le-pow_right low short in
@@ -40,12 +42,14 @@ Reads-next radix bytes i value byte digit within is below digit_is reads =
     }
 
 -- the number is small
-pub Reads-small : (radix : ℕ) (bytes : List ℕ) (i value : ℕ) → 1 ≤ radix → radix ≤ 16 → length bytes ≤ 10 → Reads radix bytes i value → value < 2 ^ 40
+pub Reads-small : (radix : ℕ) (bytes : List ℕ) (i value : ℕ) → 1 ≤ radix → radix ≤ 16 → length bytes ≤ 10
+    → Reads radix bytes i value → value < 2 ^ 40
 Reads-small radix bytes i value low high short reads =
     rw reads.value_is (digits_value-small radix (take i bytes) low high (omega (arith, length-take i bytes, short)) reads.digits)
 
 -- the number of one digit more is small too
-pub Reads-next_small : (radix : ℕ) (bytes : List ℕ) (i value byte digit : ℕ) → 1 ≤ radix → radix ≤ 16 → length bytes ≤ 10
+pub Reads-next_small : (radix : ℕ) (bytes : List ℕ) (i value byte digit : ℕ) → 1 ≤ radix → radix ≤ 16
+    → length bytes ≤ 10
     → i < length bytes → byte ≡ get_or bytes i 0 → digit_value byte < radix → digit_value byte ≡ digit
     → Reads radix bytes i value → value * radix + digit < 2 ^ 40
 Reads-next_small radix bytes i value byte digit low high short within is below digit_is reads =
@@ -54,12 +58,16 @@ Reads-next_small radix bytes i value byte digit low high short within is below d
 -- all bytes are digits, and write this number
 pub Reads-all : (radix : ℕ) (bytes : List ℕ) (i value : ℕ) → length bytes ≤ i → Reads radix bytes i value
     → AllDigits radix bytes × (digits_value radix bytes ≡ value)
-Reads-all radix bytes i value past reads = let all = take_all i bytes past in (rw all at reads.digits, sym (rw all at reads.value_is))
+Reads-all radix bytes i value past reads =
+    let all = take_all i bytes past in
+    (rw all at reads.digits, sym (rw all at reads.value_is))
 
 -- one digit more than the number without its last digit
 pub length-decimal_step : (n : ℕ) → 10 ≤ n → n < 2 ^ 64 → length (decimal n) ≡ length (decimal (n / 10)) + 1
-length-decimal_step n large small = ap length (decimal_step n large small) ∙ length_push (decimal (n / 10)) (48 + n % 10)
+length-decimal_step n large small =
+    ap length (decimal_step n large small) ∙ length_push (decimal (n / 10)) (48 + n % 10)
 
 -- a last digit behind the others
-pub put_last : (buf digits : List ℕ) (count last : ℕ) → count < length buf → take count buf ≡ digits → take (count + 1) (set buf count last) ≡ digits ++ last ∷ []
+pub put_last : (buf digits : List ℕ) (count last : ℕ) → count < length buf → take count buf ≡ digits
+    → take (count + 1) (set buf count last) ≡ digits ++ last ∷ []
 put_last buf digits count last within front = take_more_set buf count last within ∙ ap (λ ds. ds ++ last ∷ []) front

@@ -25,14 +25,16 @@ digits-back radix (c ∷ cs) h =
     let first : nat_lt (digit_value c) radix ≡ true = parts.0 in
     (grind (arith, nat_tests), digits-back radix cs parts.1)
 
-numeral : (radix longest : ℕ) (bytes : List ℕ) → IsNumeral radix bytes → length bytes ≤ longest → is_numeral radix longest bytes ≡ true
+numeral : (radix longest : ℕ) (bytes : List ℕ) → IsNumeral radix bytes → length bytes ≤ longest
+    → is_numeral radix longest bytes ≡ true
 numeral radix longest bytes h short =
     let some : 0 < length bytes = h.0 in
     let a : nat_le 1 (length bytes) ≡ true = grind (arith, nat_tests) in
     let b : nat_le (length bytes) longest ≡ true = grind (arith, nat_tests) in
     rw (a, b) (digits radix bytes h.1)
 
-numeral-back : (radix longest : ℕ) (bytes : List ℕ) → is_numeral radix longest bytes ≡ true → IsNumeral radix bytes × (length bytes ≤ longest)
+numeral-back : (radix longest : ℕ) (bytes : List ℕ) → is_numeral radix longest bytes ≡ true
+    → IsNumeral radix bytes × (length bytes ≤ longest)
 numeral-back radix longest bytes h =
     let a = both (nat_le 1 (length bytes)) _ h in
     let b = both (nat_le (length bytes) longest) _ a.1 in
@@ -53,7 +55,8 @@ says most bytes h =
     (n.0, n.1, grind (arith, nat_tests))
 
 -- the answer that is there exactly where the bytes are such a number
-pub decimal_in-is : (r : Option ℕ) (most : ℕ) (bytes : List ℕ) → SomeIff r (IsDecimal most bytes) (decimal_value bytes) → r ≡ decimal_in most bytes
+pub decimal_in-is : (r : Option ℕ) (most : ℕ) (bytes : List ℕ) → SomeIff r (IsDecimal most bytes) (decimal_value bytes)
+    → r ≡ decimal_in most bytes
 unfolding decimal_in
 decimal_in-is (Some x) most bytes h = rw (holds most bytes h.0) (ap Some h.1)
 decimal_in-is None most bytes h = go (is_decimal most bytes) refl

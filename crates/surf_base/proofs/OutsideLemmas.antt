@@ -26,7 +26,8 @@ GotPrefix-front old new xs ys (k, within, is) =
     (k, omega (arith, length-append xs ys), rw take-append-le is)
 
 -- what came after a front that was written whole
-pub GotPrefix-after : (old mid new : Option (List ℕ)) (xs ys : List ℕ) → mid ≡ appended old xs → GotPrefix mid new ys → GotPrefix old new (xs ++ ys)
+pub GotPrefix-after : (old mid new : Option (List ℕ)) (xs ys : List ℕ) → mid ≡ appended old xs → GotPrefix mid new ys
+    → GotPrefix old new (xs ++ ys)
 GotPrefix-after old mid new xs ys front (k, within, is) = (
   length xs + k,
   omega (arith, length-append xs ys),
@@ -43,6 +44,7 @@ GotPrefix-nothing old new xs is = (0, omega arith, rw appended-nothing is)
 
 -- a written front and the piece after it are a longer front
 pub appended-next : (old mid new : Option (List ℕ)) (xs : List ℕ) (done k : ℕ)
-    → mid ≡ appended old (take done xs) → new ≡ appended mid (take k (slice_range xs done (length xs))) → new ≡ appended old (take (done + k) xs)
+    → mid ≡ appended old (take done xs) → new ≡ appended mid (take k (slice_range xs done (length xs)))
+    → new ≡ appended old (take (done + k) xs)
 appended-next old mid new xs done k front next =
     rw (take-add done k xs, ← appended-append old (take done xs) (take k (drop done xs)), ← front, ← take_rest xs done) next

@@ -6,7 +6,8 @@ use Rattle.surf_base.specs.Taken.{content_of}
 
 -- a read changes nothing of the whole content
 pub content_of-next : (had got piece : List ℕ) (old new : Option (List ℕ)) (n : ℕ)
-    → got ≡ had ++ take n piece → HandsOn n piece old new → (old ≡ None → new ≡ None) → content_of got new ≡ content_of had old
+    → got ≡ had ++ take n piece → HandsOn n piece old new → (old ≡ None → new ≡ None)
+    → content_of got new ≡ content_of had old
 content_of-next had got piece None new n gets observed unobserved = rw (unobserved refl) refl
 content_of-next had got piece (Some rest) new n gets observed unobserved =
     let facts = observed rest refl in

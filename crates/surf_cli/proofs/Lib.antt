@@ -12,3 +12,4 @@ pub mod Readings
 pub mod Runnings
 pub mod TextReads
 pub mod Replays
+pub mod Replaying

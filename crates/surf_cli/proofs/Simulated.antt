@@ -30,7 +30,7 @@ unfolding trace_driver
 same-got p es fs j state t e = refl
 
 -- a trace and the domain's own entries do the same at the domain's attachments
-alike : (p : Plan) (d j : ℕ) (es : List Entry) → IsOwn p d j → DoAlike (trace_driver p es) (trace_driver p (of_domain p d es)) j
+pub alike : (p : Plan) (d j : ℕ) (es : List Entry) → IsOwn p d j → DoAlike (trace_driver p es) (trace_driver p (of_domain p d es)) j
 alike p d j es own = record {
   offer = λ state t. sym (restricted_offer p d j es state t (own-domain p d j own));
   hears = λ state t. sym (restricted_hears p d j es state t (own-domain p d j own));

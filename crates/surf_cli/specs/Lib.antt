@@ -19,3 +19,4 @@ pub mod Meaning
 pub mod Answers
 pub mod Runs
 pub mod Reading
+pub mod Laws

@@ -8,6 +8,7 @@ ghost use Rattle.vl_tree.specs.Values.{Design};
 ghost use Rattle.vl_tree.specs.Spells.{Spells};
 ghost use Rattle.vl_tree.specs.Faults.{IsReadFault};
 ghost use Rattle.vl_tree.specs.declared.fault.TextFault.{TextFault};
+ghost use Rattle.surf_cli.specs.Laws.{ReplayIsSimulate};
 ghost use Rattle.surf_cli.specs.Simulate.{report_text};
 ghost use Rattle.surf_cli.specs.TextRead.{text_read};
 
@@ -26,4 +27,10 @@ pub fn texts_as_spelled()
 /// What they refuse of it is its first fault of those that reading finds.
 pub fn texts_as_refused()
     ensures { (bytes : List ℕ) (fault : TextFault) → (text_read bytes ≡ Err fault) ↔ IsReadFault bytes fault }
+{}
+
+/// The replay of a right text is the simulation: `replay` of such a text and `simulate` come to the same end, with the
+/// same bytes, for every trace and cycle count.
+pub fn replay_is_simulate()
+    ensures { ReplayIsSimulate }
 {}

@@ -38,17 +38,18 @@ use Rattle.surf_replay.specs.Cycle.{seen_text, notified}
 use Rattle.surf_replay.specs.Going.{IsGoing}
 use Rattle.surf_replay.proofs.Fed.{same-inputs, Owns, among, given-ov, given-oa, given-op, given-ol, given-hr}
 
-bit : (b : Bool) → (one_if b == 1) ≡ b
+pub bit : (b : Bool) → (one_if b == 1) ≡ b
 bit true = refl
 bit false = refl
 
 -- an offer that is put on the ports is read there
-read-offer : (o : Option Offer) (nets : Nets) (h : Host) → at nets (codes "ov") h ≡ one_if (is_some o) → at nets (codes "oa") h ≡ address_of o → at nets (codes "op") h ≡ payload_of o → at nets (codes "ol") h ≡ last_of o → offer_at nets h ≡ o
+pub read-offer : (o : Option Offer) (nets : Nets) (h : Host) → at nets (codes "ov") h ≡ one_if (is_some o) → at nets (codes "oa") h ≡ address_of o → at nets (codes "op") h ≡ payload_of o → at nets (codes "ol") h ≡ last_of o → offer_at nets h ≡ o
 read-offer None nets h a b c d = rw a refl
 read-offer (Some w) nets h a b c d =
     rw (a, b, c, d) (ap (λ (l : Bool). Some (record { address = w.address; payload = w.payload; last = l })) (bit w.last))
 
-got-heard : (t n d : ℕ) (hears : Bool) (e : Option Ejected) → got_events t n d true (if hears then e else None) ≡ got_events t n d hears e
+got-heard : (t n d : ℕ) (hears : Bool) (e : Option Ejected)
+    → got_events t n d true (if hears then e else None) ≡ got_events t n d hears e
 got-heard t n d true e = refl
 got-heard t n d false e = refl
 
@@ -92,19 +93,29 @@ module _ (p : Plan) (m : Running) (sound : IsSound m.design) (v : Driver) (t : �
     owned n own = top-is n (subst (λ ps. has_input ps n ≡ true) (sym ports) (among p.hosts j h at-j n own))
 
     on-ov : at nets (codes "ov") h ≡ one_if (is_some o)
-    on-ov = let self = itself (host_name (codes "ov") h) in owned (host_name (codes "ov") h) (rw self refl) ∙ given-ov v t g.states p.hosts j h at-j distinct
+    on-ov =
+        let self = itself (host_name (codes "ov") h) in
+        owned (host_name (codes "ov") h) (rw self refl) ∙ given-ov v t g.states p.hosts j h at-j distinct
 
     on-oa : at nets (codes "oa") h ≡ address_of o
-    on-oa = let self = itself (host_name (codes "oa") h) in owned (host_name (codes "oa") h) (rw self refl) ∙ given-oa v t g.states p.hosts j h at-j distinct
+    on-oa =
+        let self = itself (host_name (codes "oa") h) in
+        owned (host_name (codes "oa") h) (rw self refl) ∙ given-oa v t g.states p.hosts j h at-j distinct
 
     on-op : at nets (codes "op") h ≡ payload_of o
-    on-op = let self = itself (host_name (codes "op") h) in owned (host_name (codes "op") h) (rw self refl) ∙ given-op v t g.states p.hosts j h at-j distinct
+    on-op =
+        let self = itself (host_name (codes "op") h) in
+        owned (host_name (codes "op") h) (rw self refl) ∙ given-op v t g.states p.hosts j h at-j distinct
 
     on-ol : at nets (codes "ol") h ≡ last_of o
-    on-ol = let self = itself (host_name (codes "ol") h) in owned (host_name (codes "ol") h) (rw self refl) ∙ given-ol v t g.states p.hosts j h at-j distinct
+    on-ol =
+        let self = itself (host_name (codes "ol") h) in
+        owned (host_name (codes "ol") h) (rw self refl) ∙ given-ol v t g.states p.hosts j h at-j distinct
 
     on-hr : at nets (codes "hr") h ≡ one_if (v.hears j (g.states j) t)
-    on-hr = let self = itself (host_name (codes "hr") h) in owned (host_name (codes "hr") h) (rw self refl) ∙ given-hr v t g.states p.hosts j h at-j distinct
+    on-hr =
+        let self = itself (host_name (codes "hr") h) in
+        owned (host_name (codes "hr") h) (rw self refl) ∙ given-hr v t g.states p.hosts j h at-j distinct
 
     offered : offer_at nets h ≡ o
     offered = read-offer o nets h on-ov on-oa on-op on-ol
@@ -130,17 +141,20 @@ module _ (p : Plan) (m : Running) (sound : IsSound m.design) (v : Driver) (t : �
         (got-heard t h.tile h.domain (v.hears j (g.states j) t) (ejected_at nets h) ∙ ap (λ b. got_events t h.tile h.domain b (ejected_at nets h)) (sym hearing))
 
   -- those of a domain are the text's
-  pub events-of : (k : ℕ) (seen : List SeenAt) → plan.IsSound p → ((j : ℕ) (h : Host) → slice_get p.hosts j ≡ Some h → seen_at seen j ≡ seen_text v t j (g.states j) nets h)
+  pub events-of : (k : ℕ) (seen : List SeenAt) → plan.IsSound p
+      → ((j : ℕ) (h : Host) → slice_get p.hosts j ≡ Some h → seen_at seen j ≡ seen_text v t j (g.states j) nets h)
       → filter (λ (e : Event). e.domain == k) (events_seen t seen 0 p.hosts) ≡ text_events p k t nets
   events-of k seen fine saw = own-events t k 0 seen f p.hosts own ∙ ap (flat_map f) (sym (hosts_of-tiles p k fine))
     where
       f : ℕ → List Event
       f n = host_events t nets (host_of k n)
 
-      own : (a i : ℕ) (h : Host) → i ≡ 0 + a → slice_get p.hosts a ≡ Some h → h.domain ≡ k → seen_events t h (seen_at seen i) ≡ f h.tile
+      own : (a i : ℕ) (h : Host) → i ≡ 0 + a → slice_get p.hosts a ≡ Some h → h.domain ≡ k
+          → seen_events t h (seen_at seen i) ≡ f h.tile
       own a i h e at-a mine =
           let same : i ≡ a = omega arith in
-          ap (λ z. seen_events t h (seen_at seen z)) same ∙ ap (seen_events t h) (saw a h at-a) ∙ events-so a h at-a ∙ ap (λ z. host_events t nets (host_of z h.tile)) mine
+          ap (λ z. seen_events t h (seen_at seen z)) same ∙ ap (seen_events t h) (saw a h at-a) ∙ events-so a h at-a
+          ∙ ap (λ z. host_events t nets (host_of z h.tile)) mine
 
 -- ---- cycle after cycle
 
@@ -161,7 +175,8 @@ module _ (p : Plan) (d : Design) (v : Driver) where
   abbrev Text : ℕ → ℕ → Going → List Event
   Text k t g = text_events p k t (nets_in p d v t g)
 
-  replayed-more : (k n t : ℕ) (g : Going) → replayed p d v k (suc n) t g ≡ replayed p d v k n t g ++ Text k (t + n) (gone n t g)
+  replayed-more : (k n t : ℕ) (g : Going)
+      → replayed p d v k (suc n) t g ≡ replayed p d v k n t g ++ Text k (t + n) (gone n t g)
   replayed-more k zero t g = let same : t ≡ t + 0 = omega arith in append-nil (Text k t g) ∙ ap (λ i. Text k i g) same
   replayed-more k (suc n) t g =
       let next : Going = going_next p d v t g in
@@ -176,11 +191,13 @@ module _ (p : Plan) (d : Design) (v : Driver) where
       let same : n ≡ 0 + n = omega arith in
       ap (λ k. going_next p d v k (gone n 0 g)) same ∙ sym (gone-more n 0 g) ∙ ap (λ k. gone k 0 g) (sym one)
 
-  pub next-replayed : (k n : ℕ) (g : Going) → replayed p d v k n 0 g ++ Text k n (gone n 0 g) ≡ replayed p d v k (n + 1) 0 g
+  pub next-replayed : (k n : ℕ) (g : Going)
+      → replayed p d v k n 0 g ++ Text k n (gone n 0 g) ≡ replayed p d v k (n + 1) 0 g
   next-replayed k n g =
       let one : n + 1 ≡ suc n = omega arith in
       let same : n ≡ 0 + n = omega arith in
-      ap (λ i. replayed p d v k n 0 g ++ Text k i (gone n 0 g)) same ∙ sym (replayed-more k n 0 g) ∙ ap (λ i. replayed p d v k i 0 g) (sym one)
+      ap (λ i. replayed p d v k n 0 g ++ Text k i (gone n 0 g)) same ∙ sym (replayed-more k n 0 g)
+      ∙ ap (λ i. replayed p d v k i 0 g) (sym one)
 
 pub none-past : {A : Type 0} (xs : List A) (j : ℕ) → slice_get xs j ≡ None → length xs ≤ j
 none-past [] j e = omega arith
@@ -202,7 +219,8 @@ port-same a b e =
     let name = one-name a.name b.name es.0 in
     let high = eqb-true a.high b.high fs.0 in
     let way = way-same a.output b.output fs.1 in
-    ap (λ n. port-of a.output a.high n) name ∙ ap (λ h. port-of a.output h b.name) high ∙ ap (λ w. port-of w b.high b.name) way
+    ap (λ n. port-of a.output a.high n) name ∙ ap (λ h. port-of a.output h b.name) high
+    ∙ ap (λ w. port-of w b.high b.name) way
   where
     port-of : Bool → ℕ → List ℕ → Port
     port-of w h n = record { output = w; high = h; name = n }
@@ -214,7 +232,9 @@ no-difference (x ∷ xs) [] i e = absurd (none-some i (sym e))
 no-difference (x ∷ xs) (y ∷ ys) i e = go (same_port x y) refl (no-difference xs ys (i + 1))
   where
     go : (b : Bool) → same_port x y ≡ b → (difference (i + 1) xs ys ≡ None → xs ≡ ys) → x ∷ xs ≡ y ∷ ys
-    go true same later = ap (λ z. z ∷ xs) (port-same x y same) ∙ ap (λ zs. y ∷ zs) (later (sym (ap (λ b. if b then difference (i + 1) xs ys else Some i) same) ∙ e))
+    go true same later =
+        ap (λ z. z ∷ xs) (port-same x y same)
+        ∙ ap (λ zs. y ∷ zs) (later (sym (ap (λ b. if b then difference (i + 1) xs ys else Some i) same) ∙ e))
     go false other later = absurd (none-some i (sym e ∙ ap (λ b. if b then difference (i + 1) xs ys else Some i) other))
 
 -- a design without the fault has the plan's ports

@@ -18,12 +18,15 @@ use Rattle.vl_run.proofs.Inputs.{has_input, Distinct}
 use Rattle.surf_replay.specs.Feed.{host_numbers, all_numbers}
 
 module _ (v : Driver) (t : ℕ) (states : ℕ → List ℕ) where
-  same-input : (hs : List Host) (j : ℕ) (n : Name) → inputs_of (flat_map host_ports hs) (all_numbers v t states j hs) n ≡ driven_inputs v t states j hs n
+  same-input : (hs : List Host) (j : ℕ) (n : Name)
+      → inputs_of (flat_map host_ports hs) (all_numbers v t states j hs) n ≡ driven_inputs v t states j hs n
   same-input [] j n = refl
-  same-input (h ∷ hs) j n = ap (host_input h (v.offer j (states j) t) (v.hears j (states j) t) n) (same-input hs (j + 1) n)
+  same-input (h ∷ hs) j n =
+      ap (host_input h (v.offer j (states j) t) (v.hears j (states j) t) n) (same-input hs (j + 1) n)
 
   -- the numbers by the list are those by name
-  pub same-inputs : (hs : List Host) → inputs_of (flat_map host_ports hs) (all_numbers v t states 0 hs) ≡ driven_inputs v t states 0 hs
+  pub same-inputs : (hs : List Host)
+      → inputs_of (flat_map host_ports hs) (all_numbers v t states 0 hs) ≡ driven_inputs v t states 0 hs
   same-inputs hs = fun_ext (same-input hs 0)
 
 -- ---- by names
@@ -32,7 +35,8 @@ module _ (v : Driver) (t : ℕ) (states : ℕ → List ℕ) where
 abbrev pub Owns : Host → Name → Type 0
 Owns h n = has_input (host_ports h) n ≡ true
 
-any-more : (a b c d e r : Bool) → (a || (b || (c || (d || (e || false))))) ≡ true → (a || (b || (c || (d || (e || r))))) ≡ true
+any-more : (a b c d e r : Bool) → (a || (b || (c || (d || (e || false))))) ≡ true
+    → (a || (b || (c || (d || (e || r))))) ≡ true
 any-more true b c d e r h = refl
 any-more false true c d e r h = refl
 any-more false false true d e r h = refl
@@ -51,7 +55,8 @@ any-behind false false false false false r h = h
 abbrev named : List ℕ → Host → Name → Bool
 named front h n = bytes_eq n (host_name front h)
 
-pub among : (hs : List Host) (i : ℕ) (h : Host) → slice_get hs i ≡ Some h → (n : Name) → Owns h n → has_input (flat_map host_ports hs) n ≡ true
+pub among : (hs : List Host) (i : ℕ) (h : Host) → slice_get hs i ≡ Some h → (n : Name) → Owns h n
+    → has_input (flat_map host_ports hs) n ≡ true
 among [] i h e n own = absurd (none-some h e)
 among (g ∷ hs) zero h e n own =
     let one : g ≡ h = cc in
@@ -68,7 +73,8 @@ apart ps n m a b = go (bytes_eq n m) refl
     go true same = absurd (both_ways (has_input ps n) (ap (has_input ps) (one-name n m same) ∙ b) a)
     go false other = other
 
-skip : (g : Host) (o : Option Offer) (hears : Bool) (ps : List Port) (n : Name) (y : ℕ) → Distinct (host_ports g ++ ps) → has_input ps n ≡ true → host_input g o hears n y ≡ y
+skip : (g : Host) (o : Option Offer) (hears : Bool) (ps : List Port) (n : Name) (y : ℕ) → Distinct (host_ports g ++ ps)
+    → has_input ps n ≡ true → host_input g o hears n y ≡ y
 skip g o hears ps n y d h =
     let e0 = apart ps n (host_name (codes "ov") g) h d.0 in
     let e1 = apart ps n (host_name (codes "oa") g) h d.1.0 in
@@ -81,7 +87,9 @@ module _ (v : Driver) (t : ℕ) (states : ℕ → List ℕ) where
   abbrev Given : ℕ → Host → Name → ℕ → ℕ
   Given k h n y = host_input h (v.offer k (states k) t) (v.hears k (states k) t) n y
 
-  given-at : (hs : List Host) (j i k : ℕ) (h : Host) → k ≡ j + i → slice_get hs i ≡ Some h → Distinct (flat_map host_ports hs) → (n : Name) → Owns h n → (y : ℕ) × (driven_inputs v t states j hs n ≡ Given k h n y)
+  given-at : (hs : List Host) (j i k : ℕ) (h : Host) → k ≡ j + i → slice_get hs i ≡ Some h
+      → Distinct (flat_map host_ports hs) → (n : Name) → Owns h n
+      → (y : ℕ) × (driven_inputs v t states j hs n ≡ Given k h n y)
   given-at [] j i k h is e d n own = absurd (none-some h e)
   given-at (g ∷ hs) j zero k h is e d n own =
       let one : g ≡ h = cc in

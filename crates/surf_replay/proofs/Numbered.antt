@@ -8,7 +8,7 @@ use Rattle.vl_model.specs.Settle.{settled, with_inputs}
 use Rattle.noc_model.specs.declared.Host.{Host}
 use Rattle.noc_model.specs.Plan.{Plan}
 use Rattle.gen_kit.specs.Ports.{top_ports, host_name}
-use Rattle.gen_kit.specs.PortSpec.{high_of, head_of, port_of}
+use Rattle.gen_kit.specs.PortSpec.{high_of, kind_head, port_of}
 use Rattle.gen_kit.specs.Replayed.{at}
 use Rattle.gen_kit.proofs.Listed.{port-at}
 use Rattle.vl_run.specs.Stands.{Running}
@@ -17,7 +17,8 @@ use Rattle.surf_replay.specs.Cycle.{IsIn}
 abbrev pub port_at : Host → ℕ → Port
 port_at h k = port_of (record { output = nat_le 5 k; high = high_of k; kind = k; tile = h.tile; domain = h.domain })
 
-pub listed : (p : Plan) (j k : ℕ) (h : Host) → slice_get p.hosts j ≡ Some h → k < 11 → slice_get (top_ports p) (11 * j + k) ≡ Some (port_at h k)
+pub listed : (p : Plan) (j k : ℕ) (h : Host) → slice_get p.hosts j ≡ Some h → k < 11
+    → slice_get (top_ports p) (11 * j + k) ≡ Some (port_at h k)
 listed p j k h at less =
     let block : (11 * j + k) / 11 ≡ j = omega arith in
     let kind : (11 * j + k) % 11 ≡ k = omega arith in

@@ -32,4 +32,5 @@ seen_text v t j state nets h = record {
 -- the state of attachment j, which is h, after the cycle
 abbrev pub notified : Driver → ℕ → ℕ → List ℕ → Nets → Host → List ℕ
 notified v t j state nets h =
-    after_got v j (after_taken v j state t (is_on nets (codes "rd") h && is_some (v.offer j state t))) t (v.hears j state t) (ejected_at nets h)
+    after_got v j (after_taken v j state t (is_on nets (codes "rd") h && is_some (v.offer j state t))) t
+    (v.hears j state t) (ejected_at nets h)

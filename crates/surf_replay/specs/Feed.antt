@@ -17,7 +17,8 @@ host_numbers o hears = offer_numbers o ++ one_if hears ∷ []
 -- those of all attachments, which are numbered from j on, in cycle t
 abbrev pub all_numbers : Driver → ℕ → (ℕ → List ℕ) → ℕ → List Host → List ℕ
 all_numbers v t states j [] = []
-all_numbers v t states j (h ∷ hs) = host_numbers (v.offer j (states j) t) (v.hears j (states j) t) ++ all_numbers v t states (j + 1) hs
+all_numbers v t states j (h ∷ hs) = host_numbers (v.offer j (states j) t) (v.hears j (states j) t)
+    ++ all_numbers v t states (j + 1) hs
 
 -- an offer's numbers are of 32 bits
 abbrev pub IsSmallOffer : Option Offer → Type 0

@@ -26,10 +26,12 @@ fn step_attached<D: Drive>(
     requires seen { length seen.old ≡ length plan.now.hosts }
     ensures count { D.count drive.new ≡ D.count drive.old }
     ensures driver { D.driver drive.new ≡ D.driver drive.old }
-    ensures state { (nets : Nets) (h : Host) → IsIn (running machine.now) plan.now nets → slice_get plan.now.hosts j ≡ Some h
+    ensures state { (nets : Nets) (h : Host) → IsIn (running machine.now) plan.now nets
+        → slice_get plan.now.hosts j ≡ Some h
         → D.state drive.new j ≡ notified (D.driver drive.old) cycle j (D.state drive.old j) nets h }
     ensures others { (k : ℕ) → k ≢ j → D.state drive.new k ≡ D.state drive.old k }
-    ensures seen { (nets : Nets) (h : Host) → IsIn (running machine.now) plan.now nets → slice_get plan.now.hosts j ≡ Some h
+    ensures seen { (nets : Nets) (h : Host) → IsIn (running machine.now) plan.now nets
+        → slice_get plan.now.hosts j ≡ Some h
         → seen_at seen.new j ≡ seen_text (D.driver drive.old) cycle j (D.state drive.old j) nets h }
     ensures seen_len { length seen.new ≡ length seen.old }
     ensures seen_others { (k : ℕ) → k ≢ j → seen_at seen.new k ≡ seen_at seen.old k }
@@ -56,10 +58,12 @@ pub(crate) fn step_all<D: Drive>(
     requires seen { length seen.old ≡ length plan.now.hosts }
     ensures count { D.count drive.new ≡ D.count drive.old }
     ensures driver { D.driver drive.new ≡ D.driver drive.old }
-    ensures state { (nets : Nets) (j : ℕ) (h : Host) → IsIn (running machine.now) plan.now nets → slice_get plan.now.hosts j ≡ Some h
+    ensures state { (nets : Nets) (j : ℕ) (h : Host) → IsIn (running machine.now) plan.now nets
+        → slice_get plan.now.hosts j ≡ Some h
         → D.state drive.new j ≡ notified (D.driver drive.old) cycle j (D.state drive.old j) nets h }
     ensures others { (j : ℕ) → length plan.now.hosts ≤ j → D.state drive.new j ≡ D.state drive.old j }
-    ensures seen { (nets : Nets) (j : ℕ) (h : Host) → IsIn (running machine.now) plan.now nets → slice_get plan.now.hosts j ≡ Some h
+    ensures seen { (nets : Nets) (j : ℕ) (h : Host) → IsIn (running machine.now) plan.now nets
+        → slice_get plan.now.hosts j ≡ Some h
         → seen_at seen.new j ≡ seen_text (D.driver drive.old) cycle j (D.state drive.old j) nets h }
     ensures seen_len { length seen.new ≡ length seen.old }
 {

@@ -53,7 +53,8 @@ fn push_attached<D: Drive>(
 ) -> Result<(), AllocError>
     requires { j < D.count drive.now }
     ensures numbers { OnOk result (inputs.new.items ≡ inputs.old.items
-        ++ host_numbers ((D.driver drive.now).offer j (D.state drive.now j) cycle) ((D.driver drive.now).hears j (D.state drive.now j) cycle)) }
+        ++ host_numbers ((D.driver drive.now).offer j (D.state drive.now j) cycle)
+        ((D.driver drive.now).hears j (D.state drive.now j) cycle)) }
     ensures small { OnOk result (IsSmallOffer ((D.driver drive.now).offer j (D.state drive.now j) cycle)) }
 {
     push_offer(inputs, drive.offer(j, cycle))?;
@@ -69,7 +70,8 @@ pub(crate) fn fill<D: Drive>(
     cycle: u32,
 ) -> Result<(), AllocError>
     requires { D.count drive.now ≡ length plan.now.hosts }
-    ensures numbers { OnOk result (inputs.new.items ≡ all_numbers (D.driver drive.now) cycle (D.state drive.now) 0 plan.now.hosts) }
+    ensures numbers { OnOk result (inputs.new.items
+        ≡ all_numbers (D.driver drive.now) cycle (D.state drive.now) 0 plan.now.hosts) }
     ensures fit { OnOk result (AreInputs (top_ports plan.now) inputs.new.items) }
 {
     inputs.clear();

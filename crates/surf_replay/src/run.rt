@@ -35,7 +35,8 @@ fn one_cycle<D: Drive>(
     ensures driver { D.driver drive.new ≡ D.driver drive.old }
     ensures seen_len { length seen.new ≡ length seen.old }
     ensures goes { OnOk result ((g : Going) → IsGoing (running machine.old) plan.now (D.state drive.old) g
-        → IsGoing (running machine.new) plan.now (D.state drive.new) (going_next plan.now (running machine.old).design (D.driver drive.old) cycle g)) }
+        → IsGoing (running machine.new) plan.now (D.state drive.new)
+        (going_next plan.now (running machine.old).design (D.driver drive.old) cycle g)) }
     ensures events { OnOk result ((g : Going) → IsGoing (running machine.old) plan.now (D.state drive.old) g → (k : ℕ) →
         filter (λ (e : Event). e.domain == k) (events_seen cycle seen.new 0 plan.now.hosts)
         ≡ text_events plan.now k cycle (nets_in plan.now (running machine.old).design (D.driver drive.old) cycle g)) }
@@ -49,8 +50,8 @@ fn one_cycle<D: Drive>(
     Ok(())
 }
 
-/// The events of the cycles from 0 to `cycles` - 1 of the design, from memories of 0, in one list. Those of each domain are
-/// what the ports of the driven text show, and the driver then stands as after that run.
+/// The events of the cycles from 0 to `cycles` - 1 of the design, from memories of 0, in one list. Those of each domain
+/// are what the ports of the driven text show, and the driver then stands as after that run.
 ///
 /// # Errors
 ///
@@ -69,11 +70,14 @@ pub fn replay<D: Drive>(
     ensures driver { D.driver drive.new ≡ D.driver drive.old }
     ensures events { IfOk result (λ events. (k : ℕ) → k < length plan.now.domains
         → filter (λ (e : Event). e.domain == k) events
-        ≡ replayed plan.now (read_design (design_of sound)) (D.driver drive.old) k cycles 0 (at_start (read_design (design_of sound)) (D.state drive.old))) }
+        ≡ replayed plan.now (read_design (design_of sound)) (D.driver drive.old) k cycles 0
+        (at_start (read_design (design_of sound)) (D.state drive.old))) }
     ensures states { IfOk result (λ events.
-        D.state drive.new ≡ states_after plan.now (read_design (design_of sound)) (D.driver drive.old) cycles 0 (at_start (read_design (design_of sound)) (D.state drive.old))) }
+        D.state drive.new ≡ states_after plan.now (read_design (design_of sound)) (D.driver drive.old) cycles 0
+        (at_start (read_design (design_of sound)) (D.state drive.old))) }
     ensures whole { (n : ℕ) × (n ≤ cycles) ×
-        (D.state drive.new ≡ states_after plan.now (read_design (design_of sound)) (D.driver drive.old) n 0 (at_start (read_design (design_of sound)) (D.state drive.old))) }
+        (D.state drive.new ≡ states_after plan.now (read_design (design_of sound)) (D.driver drive.old) n 0
+        (at_start (read_design (design_of sound)) (D.state drive.old))) }
 {
     plan.known();
     let mut machine = Machine::new(alloc, sound)?;

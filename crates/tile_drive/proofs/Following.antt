@@ -19,11 +19,13 @@ pub follows-last : (es : List Event) (e f : Event) → IsNotAfter e f → MayFol
 follows-last es e f order = λ x at.
     let count : length (es ++ e ∷ []) - 1 ≡ length es = omega (arith, length-append es (e ∷ [])) in
     let is : x ≡ e =
-    sym (get_or_from_slice_get (es ++ e ∷ []) (length (es ++ e ∷ []) - 1) x e at) ∙ ap (λ i. get_or (es ++ e ∷ []) i e) count ∙ get_or-append_seam es e [] e in
+    sym (get_or_from_slice_get (es ++ e ∷ []) (length (es ++ e ∷ []) - 1) x e at)
+    ∙ ap (λ i. get_or (es ++ e ∷ []) i e) count ∙ get_or-append_seam es e [] e in
     subst (λ (y : Event). IsNotAfter y f) (sym is) order
 
 -- events of one attachment and cycle
-pub by-kind : (t : ℕ) (h : Host) (a b : Kind) → kind_place a ≤ kind_place b → IsNotAfter (event_at t h a) (event_at t h b)
+pub by-kind : (t : ℕ) (h : Host) (a b : Kind) → kind_place a ≤ kind_place b
+    → IsNotAfter (event_at t h a) (event_at t h b)
 by-kind t h a b less = inr (refl, inr (refl, inr (refl, less)))
 
 -- an event of an attachment comes before the later ones

@@ -20,7 +20,8 @@ IsNotAfter-trans a b c =
     (λ (p : kind_place a.kind ≤ kind_place b.kind) (q : kind_place b.kind ≤ kind_place c.kind). omega arith)))
 
 -- an event that follows the last one follows each
-IsNotAfter-each : (es : List Event) (f d : Event) (k : ℕ) → AreInOrder es → MayFollow es f → k < length es → IsNotAfter (get_or es k d) f
+IsNotAfter-each : (es : List Event) (f d : Event) (k : ℕ) → AreInOrder es → MayFollow es f → k < length es
+    → IsNotAfter (get_or es k d) f
 IsNotAfter-each es f d k ordered follows within =
     let inside : length es - 1 < length es = omega arith in
     let last : IsNotAfter (get_or es (length es - 1) d) f = follows _ (slice_get-get_or es (length es - 1) d inside) in

@@ -62,7 +62,8 @@ own-events t d j seen f [] same = refl
 own-events t d j seen f (h ∷ hs) same =
     go (eqb h.domain d) refl (own-events t d (suc j) seen f hs (λ k i g is at own. same (suc k) i g (omega arith) at own))
   where
-    go : (b : Bool) → eqb h.domain d ≡ b → filter (λ (e : Event). e.domain == d) (events_seen t seen (suc j) hs) ≡ flat_map f (host_tiles d hs)
+    go : (b : Bool) → eqb h.domain d ≡ b
+        → filter (λ (e : Event). e.domain == d) (events_seen t seen (suc j) hs) ≡ flat_map f (host_tiles d hs)
         → filter (λ (e : Event). e.domain == d) (events_seen t seen j (h ∷ hs)) ≡ flat_map f (host_tiles d (h ∷ hs))
     go true e rest =
         let is : h.domain ≡ d = grind (arith, nat_tests) in

@@ -9,7 +9,8 @@ use Rattle.tile_drive.specs.Scripts.{ends_from, end_at, AreSettled}
 
 -- the first n spans begin by the cycle, and no other does
 abbrev Begun : ℕ → List Span → ℕ → Type 0
-Begun t spans n = IsPartitionPoint (λ (span : Span). leb span.cycle t ≡ true) (λ (span : Span). leb span.cycle t ≡ false) spans n
+Begun t spans n =
+    IsPartitionPoint (λ (span : Span). leb span.cycle t ≡ true) (λ (span : Span). leb span.cycle t ≡ false) spans n
 
 -- the ends behind the first
 end_at-cons : (m e : ℕ) (ends : List ℕ) (n : ℕ) → end_at m (e ∷ ends) (suc n) ≡ end_at e ends n
@@ -54,11 +55,13 @@ length-ends_from : (m : ℕ) (spans : List Span) → length (ends_from m spans) 
 length-ends_from m [] = refl
 length-ends_from m (span ∷ more) = ap suc (length-ends_from (max m (span.cycle + span.count)) more)
 
-pub ends_for_all : (spans : List Span) (ends : List ℕ) (n : ℕ) → AreSettled spans ends → n ≤ length spans → n ≤ length ends
+pub ends_for_all : (spans : List Span) (ends : List ℕ) (n : ℕ) → AreSettled spans ends → n ≤ length spans
+    → n ≤ length ends
 ends_for_all spans ends n settled few = omega (arith, few, ap length settled.ends_are, length-ends_from 0 spans)
 
 -- the same, of what the code finds
-pub covered_by : (t t' : ℕ) (spans : List Span) (ends : List ℕ) (n e : ℕ) → AreSettled spans ends → n ≤ length spans → Begun t spans n
+pub covered_by : (t t' : ℕ) (spans : List Span) (ends : List ℕ) (n e : ℕ) → AreSettled spans ends → n ≤ length spans
+    → Begun t spans n
     → t' ≡ t → e ≡ end_at 0 ends n → ltb t' e ≡ list_any (covers t) spans
 covered_by t t' spans ends n e settled few begun t_is e_is =
     let none : ltb t 0 ≡ false = grind (arith, nat_tests) in

@@ -28,7 +28,14 @@ impl Model for Iface {
 
     ghost Value = { Attached };
 
-    ghost view = { λ a. record { domain = a.domain; channels = a.channels; packet = a.packet; current = a.current; dropped = a.dropped; ejected = a.ejected } };
+    ghost view = { λ a. record {
+      domain = a.domain;
+      channels = a.channels;
+      packet = a.packet;
+      current = a.current;
+      dropped = a.dropped;
+      ejected = a.ejected;
+    } };
 
     ghost invariant = { λ a. a.current < a.channels };
 }

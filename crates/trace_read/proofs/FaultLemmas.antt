@@ -12,26 +12,34 @@ use Rattle.trace_read.specs.Entries.{is_send, number, word_of, attach_named, ent
 use Rattle.trace_read.specs.Faults.{has_no_word, first_of, place_faults, field_faults}
 
 pub hold_fault : (p : Plan) (n : ℕ) (cycle tile domain verb value : List ℕ) (more : List (List ℕ)) (c t k : ℕ)
-    → is_send (cycle ∷ tile ∷ domain ∷ verb ∷ value ∷ more) ≡ false → number cycle ≡ Some c → number tile ≡ Some t → number value ≡ Some k
+    → is_send (cycle ∷ tile ∷ domain ∷ verb ∷ value ∷ more) ≡ false → number cycle ≡ Some c → number tile ≡ Some t
+    → number value ≡ Some k
     → first_of (field_faults p n (cycle ∷ tile ∷ domain ∷ verb ∷ value ∷ more)) ≡ first_of (place_faults p n t domain ((false, WordCount n) ∷ []))
-hold_fault p n cycle tile domain verb value more c t k not_send cycle_is tile_is value_is = rw (not_send, cycle_is, tile_is, value_is) refl
+hold_fault p n cycle tile domain verb value more c t k not_send cycle_is tile_is value_is =
+    rw (not_send, cycle_is, tile_is, value_is) refl
 
 pub hold_entry : (p : Plan) (cycle tile domain verb value : List ℕ) (more : List (List ℕ)) (c t k : ℕ)
-    → is_send (cycle ∷ tile ∷ domain ∷ verb ∷ value ∷ more) ≡ false → number cycle ≡ Some c → number tile ≡ Some t → number value ≡ Some k
+    → is_send (cycle ∷ tile ∷ domain ∷ verb ∷ value ∷ more) ≡ false → number cycle ≡ Some c → number tile ≡ Some t
+    → number value ≡ Some k
     → entry_of p (cycle ∷ tile ∷ domain ∷ verb ∷ value ∷ more) ≡ Hold c (attach_named p t domain) k
-hold_entry p cycle tile domain verb value more c t k not_send cycle_is tile_is value_is = rw (not_send, cycle_is, tile_is, value_is) refl
+hold_entry p cycle tile domain verb value more c t k not_send cycle_is tile_is value_is =
+    rw (not_send, cycle_is, tile_is, value_is) refl
 
 pub send_fault : (p : Plan) (n : ℕ) (cycle tile domain verb value : List ℕ) (more : List (List ℕ)) (c t a : ℕ)
-    → is_send (cycle ∷ tile ∷ domain ∷ verb ∷ value ∷ more) ≡ true → number cycle ≡ Some c → number tile ≡ Some t → hex_in value ≡ Some a
+    → is_send (cycle ∷ tile ∷ domain ∷ verb ∷ value ∷ more) ≡ true → number cycle ≡ Some c → number tile ≡ Some t
+    → hex_in value ≡ Some a
     → has_no_word more ≡ false
     → first_of (field_faults p n (cycle ∷ tile ∷ domain ∷ verb ∷ value ∷ more))
     ≡ first_of (place_faults p n t domain (((length more == 0) || nat_lt 256 (length more), WordCount n) ∷ []))
-send_fault p n cycle tile domain verb value more c t a send cycle_is tile_is value_is words = rw (send, cycle_is, tile_is, value_is, words) refl
+send_fault p n cycle tile domain verb value more c t a send cycle_is tile_is value_is words =
+    rw (send, cycle_is, tile_is, value_is, words) refl
 
 pub send_entry : (p : Plan) (cycle tile domain verb value : List ℕ) (more : List (List ℕ)) (c t a : ℕ)
-    → is_send (cycle ∷ tile ∷ domain ∷ verb ∷ value ∷ more) ≡ true → number cycle ≡ Some c → number tile ≡ Some t → hex_in value ≡ Some a
+    → is_send (cycle ∷ tile ∷ domain ∷ verb ∷ value ∷ more) ≡ true → number cycle ≡ Some c → number tile ≡ Some t
+    → hex_in value ≡ Some a
     → entry_of p (cycle ∷ tile ∷ domain ∷ verb ∷ value ∷ more) ≡ Send c (attach_named p t domain) a (map word_of more)
-send_entry p cycle tile domain verb value more c t a send cycle_is tile_is value_is = rw (send, cycle_is, tile_is, value_is) refl
+send_entry p cycle tile domain verb value more c t a send cycle_is tile_is value_is =
+    rw (send, cycle_is, tile_is, value_is) refl
 
 -- a fault that holds is an answer
 pub memory_or : (e : TraceFault) {P : Type 0} → P → MemoryOr e P
@@ -45,6 +53,7 @@ memory_or (WordCount n) h = h
 
 -- the test of the words is that of their fields
 pub counted : (words : List ℕ) (more : List (List ℕ)) (r b : Bool) → words ≡ map word_of more
-    → r ≡ ((length words == 0) || nat_lt 256 (length words)) → r ≡ b → ((length more == 0) || nat_lt 256 (length more)) ≡ b
+    → r ≡ ((length words == 0) || nat_lt 256 (length words)) → r ≡ b
+    → ((length more == 0) || nat_lt 256 (length more)) ≡ b
 counted words more r b words_is r_is b_is =
     let e : length words ≡ length more = ap length words_is ∙ length-map more word_of in rw (← e) (sym r_is ∙ b_is)

@@ -12,7 +12,8 @@ use Rattle.std.proofs.Math.Seq.{drop-cons}
 use Rattle.trace_read.specs.Text.{is_blank, is_ink, is_field, is_feed, fields}
 
 -- the first place that passes, or the length
-pub place-from_position : (p : ℕ → Bool) (xs : List ℕ) (r : Option ℕ) (n k : ℕ) → r ≡ position p xs → n ≡ length xs → k ≡ unwrap_or r n
+pub place-from_position : (p : ℕ → Bool) (xs : List ℕ) (r : Option ℕ) (n k : ℕ) → r ≡ position p xs → n ≡ length xs
+    → k ≡ unwrap_or r n
     → (k ≡ position_or_len p xs) × (k ≤ length xs)
 place-from_position p xs r n k r_is n_is k_is =
     let few = prefix_len-le-length (λ x. not (p x)) xs in
@@ -51,7 +52,8 @@ fields-take rest some inside =
     let long : length (take e rest) ≡ e = omega (arith, length-take e rest) in
     let field : is_field (take e rest) ≡ true = grind (arith, nat_tests) in
     let blank : is_blank (get_or rest e 0) ≡ true = passes_at_first is_blank rest 0 inside in
-    let split : slice_split is_blank rest ≡ take e rest ∷ slice_split is_blank (drop (e + 1) rest) = slice_split_first is_blank rest 0 inside in
+    let split : slice_split is_blank rest ≡ take e rest ∷ slice_split is_blank (drop (e + 1) rest) =
+    slice_split_first is_blank rest 0 inside in
     let behind : slice_split is_blank (drop e rest) ≡ [] ∷ slice_split is_blank (drop (e + 1) rest) =
     rw (drop-cons rest e 0 inside, slice_split-cons_yes is_blank (get_or rest e 0) (drop (suc e) rest) blank, add-one e) refl in
     rw (split, behind, field) refl
@@ -71,7 +73,8 @@ unfolding fields
 fields-none = refl
 
 -- where no byte of a field follows the blanks in front, there is no field
-pub no_field : (line rest : List ℕ) → rest ≡ drop (position_or_len is_ink line) line → position_or_len is_blank rest ≡ 0 → fields line ≡ []
+pub no_field : (line rest : List ℕ) → rest ≡ drop (position_or_len is_ink line) line → position_or_len is_blank rest ≡ 0
+    → fields line ≡ []
 no_field line rest rest_is stop = elim (cases_lt (position_or_len is_ink line) (length line)) [
   | inl inside ↦
       let first = drop-cons line (position_or_len is_ink line) 0 inside in
@@ -84,7 +87,8 @@ no_field line rest rest_is stop = elim (cases_lt (position_or_len is_ink line) (
 ]
 
 -- the first field, and what is behind it
-pub one_field : (line rest : List ℕ) → rest ≡ drop (position_or_len is_ink line) line → 0 < position_or_len is_blank rest
+pub one_field : (line rest : List ℕ) → rest ≡ drop (position_or_len is_ink line) line
+    → 0 < position_or_len is_blank rest
     → fields line ≡ take (position_or_len is_blank rest) rest ∷ fields (drop (position_or_len is_blank rest) rest)
 one_field line rest rest_is some =
     fields-skip line ∙ ap fields (sym rest_is) ∙ elim (cases_lt (position_or_len is_blank rest) (length rest)) [
@@ -96,7 +100,8 @@ one_field line rest rest_is some =
     ]
 
 -- a part before others is a line, and loses its carriage return
-part-before : (part : List ℕ) (parts : List (List ℕ)) → 0 < length parts → lines_of_parts (part ∷ parts) ≡ strip_carriage_return part ∷ lines_of_parts parts
+part-before : (part : List ℕ) (parts : List (List ℕ)) → 0 < length parts
+    → lines_of_parts (part ∷ parts) ≡ strip_carriage_return part ∷ lines_of_parts parts
 part-before part [] some = absurd (omega arith)
 part-before part (next ∷ more) some = refl
 
@@ -105,12 +110,14 @@ pub line_first : (bytes : List ℕ) → position_or_len is_feed bytes < length b
     → lines bytes ≡ strip_carriage_return (take (position_or_len is_feed bytes) bytes) ∷ lines (drop (position_or_len is_feed bytes + 1) bytes)
 line_first bytes inside =
     let behind = drop (position_or_len is_feed bytes + 1) bytes in
-    let split : slice_split is_feed bytes ≡ take (position_or_len is_feed bytes) bytes ∷ slice_split is_feed behind = slice_split_first is_feed bytes 0 inside in
+    let split : slice_split is_feed bytes ≡ take (position_or_len is_feed bytes) bytes ∷ slice_split is_feed behind =
+    slice_split_first is_feed bytes 0 inside in
     let some : 0 < length (slice_split is_feed behind) = omega (arith, length-slice_split is_feed behind) in
     ap lines_of_parts split ∙ part-before _ _ some
 
 -- the last line, which no line feed ends
-pub line_last : (bytes : List ℕ) → 0 < length bytes → length bytes ≤ position_or_len is_feed bytes → lines bytes ≡ bytes ∷ lines []
+pub line_last : (bytes : List ℕ) → 0 < length bytes → length bytes ≤ position_or_len is_feed bytes
+    → lines bytes ≡ bytes ∷ lines []
 line_last bytes some past =
     let none : slice_split is_feed bytes ≡ bytes ∷ [] =
     slice_split_none is_feed bytes (λ k d within. fails_before_first is_feed bytes k d (omega arith)) in
@@ -127,21 +134,26 @@ pub no_field_at : (line : List ℕ) (start stop : ℕ) → start ≡ position_or
 no_field_at line start stop start_is stop_is none =
     no_field line _ (rest-is line start ∙ ap (λ i. drop i line) start_is) (sym stop_is ∙ none)
 
-pub one_field_at : (line rest : List ℕ) (start stop : ℕ) → start ≡ position_or_len is_ink line → rest ≡ take (length line - start) (drop start line)
-    → stop ≡ position_or_len is_blank rest → (stop ≡ 0 → ⊥) → fields line ≡ take stop rest ∷ fields (take (length rest - stop) (drop stop rest))
+pub one_field_at : (line rest : List ℕ) (start stop : ℕ) → start ≡ position_or_len is_ink line
+    → rest ≡ take (length line - start) (drop start line)
+    → stop ≡ position_or_len is_blank rest → (stop ≡ 0 → ⊥)
+    → fields line ≡ take stop rest ∷ fields (take (length rest - stop) (drop stop rest))
 one_field_at line rest start stop start_is rest_is stop_is some =
     let found = one_field line rest (rest_is ∙ rest-is line start ∙ ap (λ i. drop i line) start_is) (omega arith) in
     let found' : fields line ≡ take stop rest ∷ fields (drop stop rest) = rw stop_is found in
     found' ∙ ap (λ more. take stop rest ∷ fields more) (sym (rest-is rest stop))
 
 -- the first line and the rest, of the place that the code finds
-pub one_line_at : (bytes line : List ℕ) (stop : ℕ) → stop ≡ position_or_len is_feed bytes → stop ≤ length bytes → (stop ≡ length bytes → ⊥)
+pub one_line_at : (bytes line : List ℕ) (stop : ℕ) → stop ≡ position_or_len is_feed bytes → stop ≤ length bytes
+    → (stop ≡ length bytes → ⊥)
     → line ≡ strip_carriage_return (take stop bytes)
     → lines bytes ≡ line ∷ lines (take (length bytes - (stop + 1)) (drop (stop + 1) bytes))
 one_line_at bytes line stop stop_is within inside line_is =
     let found = line_first bytes (omega arith) in
-    let found' : lines bytes ≡ strip_carriage_return (take stop bytes) ∷ lines (drop (stop + 1) bytes) = rw stop_is found in
+    let found' : lines bytes ≡ strip_carriage_return (take stop bytes) ∷ lines (drop (stop + 1) bytes) =
+    rw stop_is found in
     found' ∙ rw (line_is, rest-is bytes (stop + 1)) refl
 
-pub last_line_at : (bytes : List ℕ) (stop : ℕ) → stop ≡ position_or_len is_feed bytes → stop ≡ length bytes → 0 < length bytes → lines bytes ≡ bytes ∷ []
+pub last_line_at : (bytes : List ℕ) (stop : ℕ) → stop ≡ position_or_len is_feed bytes → stop ≡ length bytes
+    → 0 < length bytes → lines bytes ≡ bytes ∷ []
 last_line_at bytes stop stop_is end some = line_last bytes some (omega arith)

@@ -9,24 +9,24 @@ use thiserror::Error;
 /// these that holds on it.
 #[derive(Debug, Drop, Clone, Copy, PartialEq, Eq, Error)]
 pub enum TraceFault {
-    /// A byte that is neither a tab nor printable ASCII, or fewer than 5 fields, or a fourth field other than `send`
-    /// and `hold`, or a `hold` of more than 5 fields.
+    /// The line is no `send` and no `hold`: it has a control character or a byte beyond ASCII, too few fields, another
+    /// word in the fourth field, or a `hold` that goes on behind its count.
     #[error("line {line}: expected `CYCLE TILE DOMAIN send ADDRESS WORD ..` or `CYCLE TILE DOMAIN hold COUNT`")]
     Syntax { line: u64 },
-    /// A cycle, tile or count that isn't 1 to 10 decimal digits up to 4294967295, or an address or word that isn't 1
-    /// to 8 hexadecimal digits.
+    /// A cycle, tile or count isn't a decimal number of 32 bits in at most 10 digits, or an address or word isn't a
+    /// hexadecimal one in at most 8.
     #[error("line {line}: a number is not spelled as one")]
     Number { line: u64 },
-    /// The plan has no such tile.
+    /// The tile is beyond the plan's last one.
     #[error("line {line}: there is no such tile")]
     TileRange { line: u64 },
-    /// The plan has no domain of this name.
+    /// The name is none of the plan's domains.
     #[error("line {line}: there is no such domain")]
     DomainUnknown { line: u64 },
-    /// The tile doesn't host the domain.
+    /// The tile has no attachment of the domain.
     #[error("line {line}: the tile does not host the domain")]
     NotHosted { line: u64 },
-    /// A `send` without a word, or with more than 256.
+    /// A `send` is a packet of at least one word and at most 256, and this one isn't.
     #[error("line {line}: a send has 1 to 256 words")]
     WordCount { line: u64 },
     /// Memory ran out.

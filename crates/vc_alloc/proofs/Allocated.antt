@@ -32,11 +32,13 @@ holder-is : (free : ℕ → Option ℕ) (found : Option ℕ) (c : ℕ) (h : Opti
 holder-is free None c h = refl
 holder-is free (Some k) c h = go (free k)
   where
-    go : (f : Option ℕ) → held_after (option_map (λ to. let w : Winner = record { place = k; to = to } in w) f) c h ≡ (if is_place f c then Some k else h)
+    go : (f : Option ℕ)
+        → held_after (option_map (λ to. let w : Winner = record { place = k; to = to } in w) f) c h ≡ (if is_place f c then Some k else h)
     go None = refl
     go (Some to) = refl
 
-taken-is : (p : Plan) (d n o : ℕ) (s : Tile) → option_and_then (free_at p d n s o) (winner p d n s o) ≡ taken_channel p d n s o
+taken-is : (p : Plan) (d n o : ℕ) (s : Tile)
+    → option_and_then (free_at p d n s o) (winner p d n s o) ≡ taken_channel p d n s o
 unfolding taken_channel
 taken-is p d n o s = refl
 
@@ -64,14 +66,16 @@ some-held free (Some k) c h held e = go (is_place (free k) c)
 -- ---- the stages
 
 -- where no output below m picks the input, its next stage stays
-stage-quiet : (m : ℕ) (x : Allocator) (k : ℕ) (next : Stage) → ((o : ℕ) → o < m → (n : Stage) → stage_after o (best_at x o) k n ≡ n) → stage_below m x k next ≡ next
+stage-quiet : (m : ℕ) (x : Allocator) (k : ℕ) (next : Stage)
+    → ((o : ℕ) → o < m → (n : Stage) → stage_after o (best_at x o) k n ≡ n) → stage_below m x k next ≡ next
 stage-quiet zero x k next not = refl
 stage-quiet (suc m) x k next not =
     not m (let e : m < suc m = omega arith in e) (stage_below m x k next)
     ∙ stage-quiet m x k next (λ o less n. not o (let e : o < suc m = omega (arith, less) in e) n)
 
 -- where one output alone may pick it, that output alone counts
-stage-one : (m : ℕ) (x : Allocator) (k q : ℕ) (next : Stage) → q < m → ((o : ℕ) → o < m → o ≢ q → (n : Stage) → stage_after o (best_at x o) k n ≡ n)
+stage-one : (m : ℕ) (x : Allocator) (k q : ℕ) (next : Stage) → q < m
+    → ((o : ℕ) → o < m → o ≢ q → (n : Stage) → stage_after o (best_at x o) k n ≡ n)
     → stage_below m x k next ≡ stage_after q (best_at x q) k next
 stage-one zero x k q next there not = absurd (omega (arith, there))
 stage-one (suc m) x k q next there not = ⊎_elim
@@ -86,7 +90,8 @@ stage-one (suc m) x k q next there not = ⊎_elim
 
 module _ (p : Plan) (d n : ℕ) (s : Tile) where
   -- the winner of an output waits for it
-  winner-waits : (o k : ℕ) → winner p d n s o ≡ Some k → (k < input_count p d) × (waits_for (s.stage (input_port p d k) (input_channel p d k)) o ≡ true)
+  winner-waits : (o k : ℕ) → winner p d n s o ≡ Some k
+      → (k < input_count p d) × (waits_for (s.stage (input_port p d k) (input_channel p d k)) o ≡ true)
   unfolding winner
   winner-waits o k e =
       let member = pick-member (input_count p d) (is_candidate p d n s o) (s.allocation o) k e in
@@ -99,10 +104,12 @@ module _ (p : Plan) (d n : ℕ) (s : Tile) where
   best o = winner_with (free_at p d n s o) (winner p d n s o)
 
   -- an output that the input doesn't wait for doesn't pick it
-  not-picked : (o k : ℕ) (st : Stage) → st ≡ s.stage (input_port p d k) (input_channel p d k) → waits_for st o ≡ false → (next : Stage) → stage_after o (best o) k next ≡ next
+  not-picked : (o k : ℕ) (st : Stage) → st ≡ s.stage (input_port p d k) (input_channel p d k) → waits_for st o ≡ false
+      → (next : Stage) → stage_after o (best o) k next ≡ next
   not-picked o k st is none next = go (winner p d n s o) refl
     where
-      other : (j : ℕ) (f : Option ℕ) → k ≢ j → stage_after o (option_map (λ to. let w : Winner = record { place = j; to = to } in w) f) k next ≡ next
+      other : (j : ℕ) (f : Option ℕ) → k ≢ j
+          → stage_after o (option_map (λ to. let w : Winner = record { place = j; to = to } in w) f) k next ≡ next
       other j None apart = refl
       other j (Some to) apart = let no : (j == k) ≡ false = grind (arith, nat_tests) in ap (λ b. if b then Active o to else next) no
 
@@ -115,7 +122,8 @@ module _ (p : Plan) (d n : ℕ) (s : Tile) where
           (cases_eq k j)
 
   -- the output that it waits for
-  picked : (o k : ℕ) (next : Stage) → stage_after o (best o) k next ≡ (if is_place (winner p d n s o) k then activated true o (taken_channel p d n s o) else next)
+  picked : (o k : ℕ) (next : Stage)
+      → stage_after o (best o) k next ≡ (if is_place (winner p d n s o) k then activated true o (taken_channel p d n s o) else next)
   picked o k next =
       go (winner p d n s o) refl
       ∙ ap (λ t. if is_place (winner p d n s o) k then activated true o t else next) (taken-is p d n o s)
@@ -130,10 +138,13 @@ module _ (p : Plan) (d n : ℕ) (s : Tile) where
       go None e = refl
       go (Some j) e = with_free j (free_at p d n s o j) (winner-free p d n o s j e)
 
-  stage-is : (x : Allocator) (m k : ℕ) (st next : Stage) → ports p ≤ m → ((o : ℕ) → o < m → best_at x o ≡ best o) → st ≡ s.stage (input_port p d k) (input_channel p d k)
+  stage-is : (x : Allocator) (m k : ℕ) (st next : Stage) → ports p ≤ m → ((o : ℕ) → o < m → best_at x o ≡ best o)
+      → st ≡ s.stage (input_port p d k) (input_channel p d k)
       → ((o : ℕ) → st ≡ Routed o → o < m) → stage_below m x k next ≡ allocated p d n s k st next
-  stage-is x m k Idle next all bests is routed = stage-quiet m x k next (λ o less v. ap (λ b. stage_after o b k v) (bests o less) ∙ not-picked o k Idle is refl v)
-  stage-is x m k (Active q w) next all bests is routed = stage-quiet m x k next (λ o less v. ap (λ b. stage_after o b k v) (bests o less) ∙ not-picked o k (Active q w) is refl v)
+  stage-is x m k Idle next all bests is routed =
+      stage-quiet m x k next (λ o less v. ap (λ b. stage_after o b k v) (bests o less) ∙ not-picked o k Idle is refl v)
+  stage-is x m k (Active q w) next all bests is routed =
+      stage-quiet m x k next (λ o less v. ap (λ b. stage_after o b k v) (bests o less) ∙ not-picked o k (Active q w) is refl v)
   stage-is x m k (Routed q) next all bests is routed =
       let there = routed q refl in
       stage-one m x k q next there
@@ -145,7 +156,8 @@ module _ (p : Plan) (d n : ℕ) (s : Tile) where
 -- ---- the step of a domain
 
 -- what shows the tile shows it, whatever is wanted
-still-shows : (x y : Allocator) (stages : List (List Stage)) (p : Plan) (d : ℕ) (s : Tile) → y ≡ record x { best = y.best } → Shows x stages p d s → Shows y stages p d s
+still-shows : (x y : Allocator) (stages : List (List Stage)) (p : Plan) (d : ℕ) (s : Tile)
+    → y ≡ record x { best = y.best } → Shows x stages p d s → Shows y stages p d s
 still-shows x y stages p d s rest shows = record {
   held = λ o w there below. ap (λ (v : Allocator). held_at v d o w) rest ∙ shows.held o w there below;
   pointers = λ o there. ap (λ (v : Allocator). pointer_at v d o) rest ∙ shows.pointers o there;
@@ -160,7 +172,8 @@ module _ (x x0 x1 y : Allocator) (stages u v : List (List Stage)) (p : Plan) (d 
   outputs : length x1.best ≡ ports p
   outputs = outputs1 ∙ outputs0 ∙ made.port_count
 
-  best-is : (s : Tile) → Shows x stages p d s → (o : ℕ) → o < ports p → best_at x1 o ≡ winner_with (free_at p d x.tile s o) (winner p d x.tile s o)
+  best-is : (s : Tile) → Shows x stages p d s → (o : ℕ) → o < ports p
+      → best_at x1 o ≡ winner_with (free_at p d x.tile s o) (winner p d x.tile s o)
   best-is s shows o there =
       bests s o (still-shows x x0 stages p d s forgot shows) there
       ∙ ap (λ n. winner_with (free_at p d n s o) (winner p d n s o)) (ap (λ (w : Allocator). w.tile) forgot)
@@ -173,7 +186,9 @@ module _ (x x0 x1 y : Allocator) (stages u v : List (List Stage)) (p : Plan) (d 
   same-pointer o = ap (λ (w : Allocator). pointer_at w d o) knows ∙ ap (λ (w : Allocator). pointer_at w d o) forgot
 
   same-channels : link_channels_at x1 d ≡ link_channels p d
-  same-channels = ap (λ (w : Allocator). link_channels_at w d) knows ∙ ap (λ (w : Allocator). link_channels_at w d) forgot ∙ made.link
+  same-channels =
+      ap (λ (w : Allocator). link_channels_at w d) knows ∙ ap (λ (w : Allocator). link_channels_at w d) forgot
+      ∙ made.link
 
   there-too : (o : ℕ) → o < ports p → o < length x1.best
   there-too o there = let e = outputs in omega (arith, e, there)
@@ -181,7 +196,8 @@ module _ (x x0 x1 y : Allocator) (stages u v : List (List Stage)) (p : Plan) (d 
   goes : (st : Stage) (q : ℕ) → GoesBelow (ports p) st → st ≡ Routed q → q < ports p
   goes st q below is = let P : Stage → Type 0 = GoesBelow (ports p) in subst P is below
 
-  pub active-is : (s : Tile) → Shows x stages p d s → (k : ℕ) → k < input_count p d → stage_at v d k ≡ allocated p d x.tile s k (stage_at stages d k) (stage_at u d k)
+  pub active-is : (s : Tile) → Shows x stages p d s → (k : ℕ) → k < input_count p d
+      → stage_at v d k ≡ allocated p d x.tile s k (stage_at stages d k) (stage_at u d k)
   active-is s shows k below =
       have.active k (omega (arith, places, below))
       ∙ stage-is p d x.tile s x1 (length x1.best) k (stage_at stages d k) (stage_at u d k) (let e = outputs in omega (arith, e))
@@ -228,8 +244,10 @@ module _ (x x0 x1 y : Allocator) (stages u v : List (List Stage)) (p : Plan) (d 
 
   pub only-domain : OnlyDomain x y d
   only-domain =
-      let with_new : Allocator → Allocator = λ w. record w { holders = y.holders; pointers = y.pointers; best = y.best } in
-      let same : x1 ≡ record x { best = x1.best } = knows ∙ ap (λ (w : Allocator). let z : Allocator = record w { best = x1.best } in z) forgot in
+      let with_new : Allocator → Allocator =
+      λ w. record w { holders = y.holders; pointers = y.pointers; best = y.best } in
+      let same : x1 ≡ record x { best = x1.best } =
+      knows ∙ ap (λ (w : Allocator). let z : Allocator = record w { best = x1.best } in z) forgot in
       record {
         rest = have.only.rest ∙ ap with_new same;
         outputs = have.only.outputs ∙ outputs1 ∙ outputs0;

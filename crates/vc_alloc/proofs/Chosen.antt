@@ -25,21 +25,25 @@ and-none false = refl
 pub first-none : (n pointer : ℕ) (free : ℕ → Option ℕ) → winner_with free (pick n (λ k. false) pointer) ≡ None
 unfolding pick
 first-none n pointer free =
-    let late : least n (λ k. nat_le pointer k && false) ≡ None = none-least n (λ k. nat_le pointer k && false) (λ k. and-none (nat_le pointer k)) in
+    let late : least n (λ k. nat_le pointer k && false) ≡ None =
+    none-least n (λ k. nat_le pointer k && false) (λ k. and-none (nat_le pointer k)) in
     let all : least n (λ k. false) ≡ None = none-least n (λ k. false) (λ k. refl) in
     rw (late, all) refl
 
 -- the better of two inputs is the one whose place is the better
-step : (pointer m to : ℕ) (free : ℕ → Option ℕ) (o : Option ℕ) → free m ≡ Some to → ((k : ℕ) → o ≡ Some k → is_some (free k) ≡ true)
+step : (pointer m to : ℕ) (free : ℕ → Option ℕ) (o : Option ℕ) → free m ≡ Some to
+    → ((k : ℕ) → o ≡ Some k → is_some (free k) ≡ true)
     → wanted pointer (winner_with free o) m (Some to) ≡ winner_with free (better pointer o m)
 step pointer m to free None e have = sym (ap (option_map (λ t. let w : Winner = record { place = m; to = t } in w)) e)
 step pointer m to free (Some k) e have = go (free k) refl (have k refl)
   where
-    both : (t : Bool) (tk : ℕ) → free k ≡ Some tk → Some (let w : Winner = if t then (record { place = m; to = to }) else (record { place = k; to = tk }) in w) ≡ winner_with free (Some (if t then m else k))
+    both : (t : Bool) (tk : ℕ) → free k ≡ Some tk
+        → Some (let w : Winner = if t then (record { place = m; to = to }) else (record { place = k; to = tk }) in w) ≡ winner_with free (Some (if t then m else k))
     both true tk is = sym (ap (option_map (λ t. let w : Winner = record { place = m; to = t } in w)) e)
     both false tk is = sym (ap (option_map (λ t. let w : Winner = record { place = k; to = t } in w)) is)
 
-    go : (f : Option ℕ) → free k ≡ f → is_some f ≡ true → wanted pointer (winner_with free (Some k)) m (Some to) ≡ winner_with free (better pointer (Some k) m)
+    go : (f : Option ℕ) → free k ≡ f → is_some f ≡ true
+        → wanted pointer (winner_with free (Some k)) m (Some to) ≡ winner_with free (better pointer (Some k) m)
     go None is some = absurd (cc some)
     go (Some tk) is some =
         ap (λ f. wanted pointer (option_map (λ t. let w : Winner = record { place = k; to = t } in w) f) m (Some to)) is ∙ both (comes_first pointer m k) tk is
@@ -48,7 +52,8 @@ pub one-more : (n pointer m : ℕ) (set : ℕ → Bool) (free : ℕ → Option �
     → wanted pointer (winner_with free (pick n set pointer)) m (free m) ≡ winner_with free (pick n (with_input set free m) pointer)
 one-more n pointer m set free below have = go (free m) refl
   where
-    go : (f : Option ℕ) → free m ≡ f → wanted pointer (winner_with free (pick n set pointer)) m (free m) ≡ winner_with free (pick n (with_input set free m) pointer)
+    go : (f : Option ℕ) → free m ≡ f
+        → wanted pointer (winner_with free (pick n set pointer)) m (free m) ≡ winner_with free (pick n (with_input set free m) pointer)
     go None is = ap (wanted pointer (winner_with free (pick n set pointer)) m) is
         ∙ sym (ap (λ f. winner_with free (pick n (if is_some f then with_member set m else set) pointer)) is)
     go (Some to) is =
@@ -63,33 +68,41 @@ and-both : (a b : Bool) → (a && b) ≡ true → (a ≡ true) × (b ≡ true)
 and-both true b e = (refl, e)
 and-both false b e = absurd (cc e)
 
-pub winner-free : (p : Plan) (d n o : ℕ) (s : Tile) (k : ℕ) → winner p d n s o ≡ Some k → is_some (free_at p d n s o k) ≡ true
+pub winner-free : (p : Plan) (d n o : ℕ) (s : Tile) (k : ℕ) → winner p d n s o ≡ Some k
+    → is_some (free_at p d n s o k) ≡ true
 unfolding winner
 winner-free p d n o s k e =
     let member = pick-member (input_count p d) (is_candidate p d n s o) (s.allocation o) k e in
-    let rest = and-both (nat_lt (input_channel p d k) (in_channels p d (input_port p d k))) (waits_for (s.stage (input_port p d k) (input_channel p d k)) o && is_some (free_at p d n s o k)) member.1 in
+    let rest =
+    and-both (nat_lt (input_channel p d k) (in_channels p d (input_port p d k))) (waits_for (s.stage (input_port p d k) (input_channel p d k)) o && is_some (free_at p d n s o k)) member.1 in
     (and-both (waits_for (s.stage (input_port p d k) (input_channel p d k)) o) (is_some (free_at p d n s o k)) rest.1).1
 
-place-is : (free : ℕ → Option ℕ) (o : Option ℕ) → ((k : ℕ) → o ≡ Some k → is_some (free k) ≡ true) → option_map (λ (w : Winner). w.place) (winner_with free o) ≡ o
+place-is : (free : ℕ → Option ℕ) (o : Option ℕ) → ((k : ℕ) → o ≡ Some k → is_some (free k) ≡ true)
+    → option_map (λ (w : Winner). w.place) (winner_with free o) ≡ o
 place-is free None have = refl
 place-is free (Some k) have = go (free k) refl (have k refl)
   where
-    go : (f : Option ℕ) → free k ≡ f → is_some f ≡ true → option_map (λ (w : Winner). w.place) (winner_with free (Some k)) ≡ Some k
+    go : (f : Option ℕ) → free k ≡ f → is_some f ≡ true
+        → option_map (λ (w : Winner). w.place) (winner_with free (Some k)) ≡ Some k
     go None is some = absurd (cc some)
     go (Some to) is some = ap (λ f. option_map (λ (w : Winner). w.place) (option_map (λ t. let w : Winner = record { place = k; to = t } in w) f)) is
 
-pub winner-place : (p : Plan) (d n o : ℕ) (s : Tile) → option_map (λ (w : Winner). w.place) (winner_with (free_at p d n s o) (winner p d n s o)) ≡ winner p d n s o
+pub winner-place : (p : Plan) (d n o : ℕ) (s : Tile)
+    → option_map (λ (w : Winner). w.place) (winner_with (free_at p d n s o) (winner p d n s o)) ≡ winner p d n s o
 winner-place p d n o s = place-is (free_at p d n s o) (winner p d n s o) (winner-free p d n o s)
 
-map-map : (k : ℕ) (f : Option ℕ) → option_map (λ (w : Winner). w.to) (option_map (λ t. let w : Winner = record { place = k; to = t } in w) f) ≡ f
+map-map : (k : ℕ) (f : Option ℕ)
+    → option_map (λ (w : Winner). w.to) (option_map (λ t. let w : Winner = record { place = k; to = t } in w) f) ≡ f
 map-map k None = refl
 map-map k (Some t) = refl
 
-channel-is : (free : ℕ → Option ℕ) (o : Option ℕ) → option_map (λ (w : Winner). w.to) (winner_with free o) ≡ option_and_then free o
+channel-is : (free : ℕ → Option ℕ) (o : Option ℕ)
+    → option_map (λ (w : Winner). w.to) (winner_with free o) ≡ option_and_then free o
 channel-is free None = refl
 channel-is free (Some k) = map-map k (free k)
 
-pub winner-channel : (p : Plan) (d n o : ℕ) (s : Tile) → option_map (λ (w : Winner). w.to) (winner_with (free_at p d n s o) (winner p d n s o)) ≡ taken_channel p d n s o
+pub winner-channel : (p : Plan) (d n o : ℕ) (s : Tile)
+    → option_map (λ (w : Winner). w.to) (winner_with (free_at p d n s o) (winner p d n s o)) ≡ taken_channel p d n s o
 unfolding taken_channel
 winner-channel p d n o s = channel-is (free_at p d n s o) (winner p d n s o)
 
@@ -99,7 +112,8 @@ local-below : (o c j : ℕ) → 1 ≤ c → j < at_local o 1 c → j < c
 local-below zero c j some below = omega (arith, some, below)
 local-below (suc o) c j some below = below
 
-pub free-is : (p : Plan) (d o class : ℕ) (x : Allocator) (s : Tile) → class < classes p → 1 ≤ channels p d → HoldsAs x p d s o → free_in x d o class ≡ free_channel p d s o class
+pub free-is : (p : Plan) (d o class : ℕ) (x : Allocator) (s : Tile) → class < classes p → 1 ≤ channels p d
+    → HoldsAs x p d s o → free_in x d o class ≡ free_channel p d s o class
 free-is p d o class x s low some holds =
     ap (λ c. option_map (λ j. class * c + j) (least (at_local o 1 c) (λ j. not (held_at x d o (class * c + j))))) holds.channels
     ∙ ap (option_map (pack p d class))

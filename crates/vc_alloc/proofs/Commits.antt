@@ -19,9 +19,11 @@ pub lane-start : {T : Type 0} (u : List (List T)) (d : ℕ) → OnlyLane u u d
 lane-start u d = record { others = λ e apart. refl; places = refl; domains = refl }
 
 pub lane-then : {T : Type 0} (u v w : List (List T)) (d : ℕ) → OnlyLane u v d → OnlyLane v w d → OnlyLane u w d
-lane-then u v w d a b = record { others = λ e apart. b.others e apart ∙ a.others e apart; places = b.places ∙ a.places; domains = b.domains ∙ a.domains }
+lane-then u v w d a b =
+    record { others = λ e apart. b.others e apart ∙ a.others e apart; places = b.places ∙ a.places; domains = b.domains ∙ a.domains }
 
-pub lane-set : {T : Type 0} (u : List (List T)) (d k : ℕ) (x : T) → d < length u → OnlyLane u (slice_set u d (slice_set (lane u d) k x)) d
+pub lane-set : {T : Type 0} (u : List (List T)) (d k : ℕ) (x : T) → d < length u
+    → OnlyLane u (slice_set u d (slice_set (lane u d) k x)) d
 lane-set u d k x there = record {
   others = λ e apart. lanes-other u d e k x apart;
   places = ap length (get_or-set_same u d (slice_set (lane u d) k x) [] there) ∙ length-set (lane u d) k x;
@@ -40,10 +42,12 @@ below-own o x y = let no : nat_lt o o ≡ false = grind (arith, nat_tests) in ap
 pub below-done : {A : Type 0} (k o : ℕ) (x y : A) → k < o → (if nat_lt k o then x else y) ≡ x
 below-done k o x y less = let yes : nat_lt k o ≡ true = grind (arith, nat_tests) in ap (λ b. if b then x else y) yes
 
-below-other : {A : Type 0} (k o : ℕ) (x y : A) → k ≢ o → (if nat_lt k (o + 1) then x else y) ≡ (if nat_lt k o then x else y)
+below-other : {A : Type 0} (k o : ℕ) (x y : A) → k ≢ o
+    → (if nat_lt k (o + 1) then x else y) ≡ (if nat_lt k o then x else y)
 below-other k o x y apart = let same : nat_lt k (o + 1) ≡ nat_lt k o = grind (arith, nat_tests) in ap (λ b. if b then x else y) same
 
-stage-next : (o : ℕ) (x : Allocator) (k : ℕ) (next : Stage) → stage_below (o + 1) x k next ≡ stage_after o (best_at x o) k (stage_below o x k next)
+stage-next : (o : ℕ) (x : Allocator) (k : ℕ) (next : Stage)
+    → stage_below (o + 1) x k next ≡ stage_after o (best_at x o) k (stage_below o x k next)
 stage-next o x k next = let e : o + 1 ≡ suc o = omega arith in ap (λ j. stage_below j x k next) e
 
 pub have-start : (x : Allocator) (u : List (List Stage)) (d : ℕ) → AreOf x d → HaveCommitted x x u u d 0
@@ -70,7 +74,8 @@ module _ (x y : Allocator) (u w : List (List Stage)) (d o : ℕ) (there : o < le
     same = have.same;
     best = λ k. have.best k ∙ ⊎_elim
         (λ (e : k ≡ o).
-        let B : ℕ → Type 0 = λ j. (if nat_lt j o then None else best_at x j) ≡ (if nat_lt j (o + 1) then None else best_at x j) in
+        let B : ℕ → Type 0 =
+        λ j. (if nat_lt j o then None else best_at x j) ≡ (if nat_lt j (o + 1) then None else best_at x j) in
         subst B (sym e) (below-own o None (best_at x o) ∙ none ∙ sym (below-done o (o + 1) None (best_at x o) (omega arith))))
         (λ (apart : k ≢ o). sym (below-other k o None (best_at x k) apart))
         (cases_eq k o);
@@ -96,7 +101,8 @@ module _ (x y : Allocator) (u w : List (List Stage)) (d o : ℕ) (there : o < le
     stages = have.stages;
   }
 
-  pub have-none : (z : Allocator) → best_at y o ≡ None → z ≡ committed y d o (best_at y o) → HaveCommitted x z u w d (o + 1)
+  pub have-none : (z : Allocator) → best_at y o ≡ None → z ≡ committed y d o (best_at y o)
+      → HaveCommitted x z u w d (o + 1)
   have-none z none made =
       let P : Allocator → Type 0 = λ v. HaveCommitted x v u w d (o + 1) in
       subst P (sym (made ∙ ap (committed y d o) none)) (nothing (sym best-now ∙ none))
@@ -128,7 +134,8 @@ module _ (x y : Allocator) (u w : List (List Stage)) (d o : ℕ) (there : o < le
 
     spots : (k c : ℕ) → k < length x.best → c < link_channels_at x d → spot y d k c < length (lane y.holders d)
     spots k c inside below =
-        let most : k * link_channels_at x d + c < link_channels_at x d * length x.best = mul-add-lt k (link_channels_at x d) c (length x.best) inside below in
+        let most : k * link_channels_at x d + c < link_channels_at x d * length x.best =
+        mul-add-lt k (link_channels_at x d) c (length x.best) inside below in
         let turn = mul_comm (length x.best) (link_channels_at x d) in
         let a = have.only.holders.places in
         let e = whole.spots d domain in
@@ -158,11 +165,14 @@ module _ (x y : Allocator) (u w : List (List Stage)) (d o : ℕ) (there : o < le
     spot-apart : (k c : ℕ) → c < link_channels_at x d → spot y d k c ≡ spot y d o b.to → (k ≡ o) × (c ≡ b.to)
     spot-apart k c below e =
         let low : c < link_channels_at y d = let a = channels-now in omega (arith, a, below) in (
-          sym (div-mul-add k (link_channels_at y d) c low) ∙ ap (λ n. n / link_channels_at y d) e ∙ div-mul-add o (link_channels_at y d) b.to of.1,
-          sym (mod-mul-add k (link_channels_at y d) c low) ∙ ap (λ n. n % link_channels_at y d) e ∙ mod-mul-add o (link_channels_at y d) b.to of.1,
+          sym (div-mul-add k (link_channels_at y d) c low) ∙ ap (λ n. n / link_channels_at y d) e
+              ∙ div-mul-add o (link_channels_at y d) b.to of.1,
+          sym (mod-mul-add k (link_channels_at y d) c low) ∙ ap (λ n. n % link_channels_at y d) e
+              ∙ mod-mul-add o (link_channels_at y d) b.to of.1,
         )
 
-    held-next : (k c : ℕ) → k < length x.best → c < link_channels_at x d → holder_at next d k c ≡ holder_below (o + 1) x d k c
+    held-next : (k c : ℕ) → k < length x.best → c < link_channels_at x d
+        → holder_at next d k c ≡ holder_below (o + 1) x d k c
     held-next k c inside below = ⊎_elim
         (λ (e : k ≡ o).
         let B : ℕ → Type 0 = λ j. holder_at next d j c ≡ holder_below (o + 1) x d j c in
@@ -177,12 +187,14 @@ module _ (x y : Allocator) (u w : List (List Stage)) (d o : ℕ) (there : o < le
         own : (c ≡ b.to) ⊎ (c ≢ b.to) → holder_at next d o c ≡ (if b.to == c then Some b.place else holder_at x d o c)
         own (inl e) =
             let yes : (b.to == c) ≡ true = grind (arith, nat_tests) in
-            ap (holder_at next d o) e ∙ lane-written y.holders d (spot y d o b.to) (Some b.place) None holders_there (spots o b.to there channel)
+            ap (holder_at next d o) e
+            ∙ lane-written y.holders d (spot y d o b.to) (Some b.place) None holders_there (spots o b.to there channel)
             ∙ sym (ap (λ t. if t then Some b.place else holder_at x d o c) yes)
         own (inr apart) =
             let no : (b.to == c) ≡ false = grind (arith, nat_tests) in
             lane-other y.holders d (spot y d o b.to) (spot y d o c) (Some b.place) None holders_there (λ e. apart (spot-apart o c below e).1)
-            ∙ have.held o c there below ∙ below-own o (held_after (best_at x o) c (holder_at x d o c)) (holder_at x d o c)
+            ∙ have.held o c there below
+            ∙ below-own o (held_after (best_at x o) c (holder_at x d o c)) (holder_at x d o c)
             ∙ sym (ap (λ t. if t then Some b.place else holder_at x d o c) no)
 
     moved-next : (k : ℕ) → k < length x.best → pointer_at next d k ≡ pointer_below (o + 1) x d k
@@ -198,9 +210,11 @@ module _ (x y : Allocator) (u w : List (List Stage)) (d o : ℕ) (there : o < le
 
     active-next : (k : ℕ) → k < length (lane u d) → stage_at put d k ≡ stage_below (o + 1) x k (stage_at u d k)
     active-next k inside =
-        here (cases_eq k b.place) ∙ sym (ap (λ a. stage_after o a k (stage_below o x k (stage_at u d k))) was) ∙ sym (stage-next o x k (stage_at u d k))
+        here (cases_eq k b.place) ∙ sym (ap (λ a. stage_after o a k (stage_below o x k (stage_at u d k))) was)
+        ∙ sym (stage-next o x k (stage_at u d k))
       where
-        here : (k ≡ b.place) ⊎ (k ≢ b.place) → stage_at put d k ≡ (if b.place == k then Active o b.to else stage_below o x k (stage_at u d k))
+        here : (k ≡ b.place) ⊎ (k ≢ b.place)
+            → stage_at put d k ≡ (if b.place == k then Active o b.to else stage_below o x k (stage_at u d k))
         here (inl e) =
             let yes : (b.place == k) ≡ true = grind (arith, nat_tests) in
             ap (stage_at put d) e ∙ lane-written w d b.place (Active o b.to) Idle stages_there stage_there
@@ -226,7 +240,8 @@ module _ (x y : Allocator) (u w : List (List Stage)) (d o : ℕ) (there : o < le
       stages = lane-then u w put d have.stages (lane-set w d b.place (Active o b.to) stages_there);
     }
 
-    pub have-some : (z : Allocator) (v : List (List Stage)) → z ≡ committed y d o (best_at y o) → AreOf z d → v ≡ slice_set w d (slice_set (lane w d) b.place (Active o b.to))
+    pub have-some : (z : Allocator) (v : List (List Stage)) → z ≡ committed y d o (best_at y o) → AreOf z d
+        → v ≡ slice_set w d (slice_set (lane w d) b.place (Active o b.to))
         → HaveCommitted x z u v d (o + 1)
     have-some z v made same put_is =
         let now : z ≡ next = made ∙ ap (committed y d o) some in

@@ -21,7 +21,9 @@ module _ (p : Plan) (st : Stage) (counts : List ℕ) (v : List (List Stage)) (ma
   filled-domains = ap length is ∙ length-map-range_with_len (λ e. replicate (input_count p e) st) 0 (length p.domains)
 
   pub filled-lane : (d : ℕ) → d < length p.domains → lane v d ≡ replicate (input_count p d) st
-  filled-lane d there = ap (λ w. lane w d) is ∙ get_or-map-range_with_len (λ e. replicate (input_count p e) st) 0 (length p.domains) d d [] there (omega arith)
+  filled-lane d there =
+      ap (λ w. lane w d) is
+      ∙ get_or-map-range_with_len (λ e. replicate (input_count p e) st) 0 (length p.domains) d d [] there (omega arith)
 
   pub filled-inputs : (d : ℕ) → d < length p.domains → length (lane v d) ≡ input_count p d
   filled-inputs d there = ap length (filled-lane d there) ∙ length-replicate (input_count p d) st

@@ -15,17 +15,23 @@ use Rattle.vc_alloc.specs.Allocator.{Allocator, IsAllocator, start_of}
 use Rattle.vc_alloc.specs.Shown.{IsFor}
 
 -- a list by number that is made one after the other
-pub one-more : (f : ℕ → ℕ) (xs ys : List ℕ) (d k : ℕ) → ys ≡ xs ++ k ∷ [] → xs ≡ map f (range_with_len 0 d) → k ≡ f d → ys ≡ map f (range_with_len 0 (d + 1))
+pub one-more : (f : ℕ → ℕ) (xs ys : List ℕ) (d k : ℕ) → ys ≡ xs ++ k ∷ [] → xs ≡ map f (range_with_len 0 d) → k ≡ f d
+    → ys ≡ map f (range_with_len 0 (d + 1))
 one-more f xs ys d k pushed before is =
-    pushed ∙ ap (λ l. l ++ k ∷ []) before ∙ ap (λ o. map f (range_with_len 0 d) ++ o ∷ []) is ∙ sym (map-range_with_len_more f 0 d d (omega arith))
+    pushed ∙ ap (λ l. l ++ k ∷ []) before ∙ ap (λ o. map f (range_with_len 0 d) ++ o ∷ []) is
+    ∙ sym (map-range_with_len_more f 0 d d (omega arith))
 
 -- lanes by number
-pub map-lanes : {T : Type 0} (f : ℕ → ℕ) (x : T) (xs : List ℕ) → map (λ c. replicate c x) (map f xs) ≡ map (λ d. replicate (f d) x) xs
+pub map-lanes : {T : Type 0} (f : ℕ → ℕ) (x : T) (xs : List ℕ)
+    → map (λ c. replicate c x) (map f xs) ≡ map (λ d. replicate (f d) x) xs
 map-lanes f x [] = refl
 map-lanes f x (y ∷ ys) = ap (λ zs. replicate (f y) x ∷ zs) (map-lanes f x ys)
 
-lane-length : {T : Type 0} (f : ℕ → ℕ) (x : T) (n d : ℕ) → d < n → length (lane (map (λ d. replicate (f d) x) (range_with_len 0 n)) d) ≡ f d
-lane-length f x n d there = ap length (get_or-map-range_with_len (λ d. replicate (f d) x) 0 n d d [] there (omega arith)) ∙ length-replicate (f d) x
+lane-length : {T : Type 0} (f : ℕ → ℕ) (x : T) (n d : ℕ) → d < n
+    → length (lane (map (λ d. replicate (f d) x) (range_with_len 0 n)) d) ≡ f d
+lane-length f x n d there =
+    ap length (get_or-map-range_with_len (λ d. replicate (f d) x) 0 n d d [] there (omega arith))
+    ∙ length-replicate (f d) x
 
 within : (t : Bool) (c : ℕ) → c ≤ (if t then 2 else 1) * c
 within true c = omega arith
@@ -48,7 +54,8 @@ module _ (p : Plan) (sound : IsSound p) (n : ℕ) where
   has-channels : (d : ℕ) → d < count → (1 ≤ channels p d) × (channels p d ≤ 4)
   has-channels d there =
       let none : DomainPart = record { name = []; channels = 0 } in
-      let is : channels p d ≡ (get_or p.domains d none).channels = ap channels_in (slice_get-get_or p.domains d none there) in
+      let is : channels p d ≡ (get_or p.domains d none).channels =
+      ap channels_in (slice_get-get_or p.domains d none there) in
       let have = sound.channels d none there in
       (omega (arith, is, have), omega (arith, is, have))
 
@@ -80,10 +87,12 @@ module _ (p : Plan) (sound : IsSound p) (n : ℕ) where
   }
 
   -- an allocator that is made of the lists of a plan is the one at the start
-  pub start-is : (cs ls : List ℕ) (hs : List (List (Option ℕ))) (ps : List (List ℕ)) (bs : List (Option Winner)) (ins outs : List ℕ)
+  pub start-is : (cs ls : List ℕ) (hs : List (List (Option ℕ))) (ps : List (List ℕ)) (bs : List (Option Winner))
+      (ins outs : List ℕ)
       → cs ≡ map (channels p) (range_with_len 0 count) → ls ≡ map (link_channels p) (range_with_len 0 count)
       → ins ≡ map (input_count p) (range_with_len 0 count) → hs ≡ map (λ c. replicate c None) ins
-      → outs ≡ map (λ d. ports p) (range_with_len 0 count) → ps ≡ map (λ c. replicate c 0) outs → bs ≡ replicate (ports p) None
+      → outs ≡ map (λ d. ports p) (range_with_len 0 count) → ps ≡ map (λ c. replicate c 0) outs
+      → bs ≡ replicate (ports p) None
       → (let x : Allocator = record { tile = n; channels = cs; link_channels = ls; holders = hs; pointers = ps; best = bs } in x) ≡ start_of p n
   start-is cs ls hs ps bs ins outs ec el ei eh eo ep eb =
       let h = eh ∙ ap (map (λ c. replicate c None)) ei ∙ map-lanes (input_count p) None (range_with_len 0 count) in

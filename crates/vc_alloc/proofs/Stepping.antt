@@ -24,7 +24,8 @@ same-self : (x : Allocator) (d : ℕ) → SameDomain x x d
 same-self x d = record { tile = refl; channels = refl; holders = refl; pointers = refl }
 
 back : (x y : Allocator) (d : ℕ) → SameDomain x y d → SameDomain y x d
-back x y d same = record { tile = sym same.tile; channels = sym same.channels; holders = sym same.holders; pointers = sym same.pointers }
+back x y d same =
+    record { tile = sym same.tile; channels = sym same.channels; holders = sym same.holders; pointers = sym same.pointers }
 
 same-other : (x y : Allocator) (d e : ℕ) → OnlyDomain x y d → e ≢ d → SameDomain x y e
 same-other x y d e only apart = record {
@@ -35,15 +36,19 @@ same-other x y d e only apart = record {
 }
 
 same-then : (x y z : Allocator) (d : ℕ) → SameDomain x y d → SameDomain y z d → SameDomain x z d
-same-then x y z d a b = record { tile = b.tile ∙ a.tile; channels = b.channels ∙ a.channels; holders = b.holders ∙ a.holders; pointers = b.pointers ∙ a.pointers }
+same-then x y z d a b =
+    record { tile = b.tile ∙ a.tile; channels = b.channels ∙ a.channels; holders = b.holders ∙ a.holders; pointers = b.pointers ∙ a.pointers }
 
 same-holder : (x y : Allocator) (d o w : ℕ) → SameDomain x y d → holder_at y d o w ≡ holder_at x d o w
-same-holder x y d o w same = ap (λ n. slice_index_or (lane y.holders d) (o * n + w) None) same.channels ∙ ap (λ l. slice_index_or l (o * link_channels_at x d + w) None) same.holders
+same-holder x y d o w same =
+    ap (λ n. slice_index_or (lane y.holders d) (o * n + w) None) same.channels
+    ∙ ap (λ l. slice_index_or l (o * link_channels_at x d + w) None) same.holders
 
 same-pointer : (x y : Allocator) (d o : ℕ) → SameDomain x y d → pointer_at y d o ≡ pointer_at x d o
 same-pointer x y d o same = ap (λ l. slice_index_or l o 0) same.pointers
 
-same-shows : (x y : Allocator) (stages : List (List Stage)) (p : Plan) (d : ℕ) (s : Tile) → SameDomain x y d → Shows x stages p d s → Shows y stages p d s
+same-shows : (x y : Allocator) (stages : List (List Stage)) (p : Plan) (d : ℕ) (s : Tile) → SameDomain x y d
+    → Shows x stages p d s → Shows y stages p d s
 same-shows x y stages p d s same shows = record {
   held = λ o w there below. ap is_some (same-holder x y d o w same) ∙ shows.held o w there below;
   pointers = λ o there. same-pointer x y d o same ∙ shows.pointers o there;
@@ -51,7 +56,8 @@ same-shows x y stages p d s same shows = record {
 }
 
 -- what a domain's inputs got depends on its lanes alone
-allocated-same : (x x' y y' : Allocator) (stages u u' v v' : List (List Stage)) (p : Plan) (d : ℕ) → SameDomain x x' d → SameDomain y y' d → lane u' d ≡ lane u d → lane v' d ≡ lane v d
+allocated-same : (x x' y y' : Allocator) (stages u u' v v' : List (List Stage)) (p : Plan) (d : ℕ) → SameDomain x x' d
+    → SameDomain y y' d → lane u' d ≡ lane u d → lane v' d ≡ lane v d
     → HasAllocated x y stages u v p d → HasAllocated x' y' stages u' v' p d
 allocated-same x x' y y' stages u u' v v' p d before after_it old new is = record {
   active = λ s shows k below.
@@ -90,7 +96,8 @@ pub record AreStepping (x y : Allocator) (stages u v : List (List Stage)) (p : P
   pub domains : length v ≡ length u
   pub places : (d : ℕ) → d < length p.domains → length (lane v d) ≡ input_count p d
 
-pub step-start : (x : Allocator) (stages u : List (List Stage)) (p : Plan) → ((d : ℕ) → d < length p.domains → IsFor x p d)
+pub step-start : (x : Allocator) (stages u : List (List Stage)) (p : Plan)
+    → ((d : ℕ) → d < length p.domains → IsFor x p d)
     → ((d : ℕ) → d < length p.domains → length (lane u d) ≡ input_count p d) → AreStepping x x stages u u p 0
 step-start x stages u p made places = record {
   allocated = λ d less. absurd (omega (arith, less));
@@ -102,7 +109,8 @@ step-start x stages u p made places = record {
   places = places;
 }
 
-pub step-next : (x y z : Allocator) (stages u v w : List (List Stage)) (p : Plan) (m : ℕ) → AreStepping x y stages u v p m
+pub step-next : (x y z : Allocator) (stages u v w : List (List Stage)) (p : Plan) (m : ℕ)
+    → AreStepping x y stages u v p m
     → HasAllocated y z stages v w p m → OnlyDomain y z m → OnlyLane v w m → AreStepping x z stages u w p (m + 1)
 step-next x y z stages u v w p m are now only only_next = record {
   allocated = λ d less. ⊎_elim

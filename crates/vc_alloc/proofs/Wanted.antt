@@ -58,31 +58,39 @@ module _ (p : Plan) (d : ℕ) (x : Allocator) (stages : List (List Stage)) (s : 
       (eqb_tells k i)
 
   same-best : (o i : ℕ) → candidate o i ≡ false → best_sofar o i ≡ best_sofar o (i + 1)
-  same-best o i none = ap (winner_with (free_at p d tile s o)) (pick-same many (sofar o i) (sofar o (i + 1)) (s.allocation o) (s.allocation o) (λ k below. same-set o i none k) refl)
+  same-best o i none =
+      ap (winner_with (free_at p d tile s o)) (pick-same many (sofar o i) (sofar o (i + 1)) (s.allocation o) (s.allocation o) (λ k below. same-set o i none k) refl)
 
-  stage-is : (i : ℕ) (st : Stage) → i < many → st ≡ stage_at stages d i → st ≡ s.stage (input_port p d i) (input_channel p d i)
+  stage-is : (i : ℕ) (st : Stage) → i < many → st ≡ stage_at stages d i
+      → st ≡ s.stage (input_port p d i) (input_channel p d i)
   stage-is i st below e = e ∙ shows.inputs i below
 
-  not-waiting : (o i : ℕ) (st : Stage) → i < many → st ≡ stage_at stages d i → waits_for st o ≡ false → candidate o i ≡ false
+  not-waiting : (o i : ℕ) (st : Stage) → i < many → st ≡ stage_at stages d i → waits_for st o ≡ false
+      → candidate o i ≡ false
   not-waiting o i st below e none =
       let free : Bool = is_some (free_at p d tile s o i) in
       and-false (nat_lt (input_channel p d i) (in_channels p d (input_port p d i))) (waits_for (s.stage (input_port p d i) (input_channel p d i)) o && free)
       (ap (λ t. waits_for t o && free) (sym (stage-is i st below e)) ∙ ap (λ b. b && free) none)
 
-  not-there : (o i : ℕ) → nat_lt (input_channel p d i) (in_channels p d (input_port p d i)) ≡ false → candidate o i ≡ false
-  not-there o i none = ap (λ b. b && (waits_for (s.stage (input_port p d i) (input_channel p d i)) o && is_some (free_at p d tile s o i))) none
+  not-there : (o i : ℕ) → nat_lt (input_channel p d i) (in_channels p d (input_port p d i)) ≡ false
+      → candidate o i ≡ false
+  not-there o i none =
+      ap (λ b. b && (waits_for (s.stage (input_port p d i) (input_channel p d i)) o && is_some (free_at p d tile s o i))) none
 
   have-free : (o i : ℕ) → HaveFree many (sofar o i) (free_at p d tile s o)
   have-free o i k below e =
       let c = (and-both (nat_lt k i) (candidate o k) e).1 in
-      let rest = (and-both (nat_lt (input_channel p d k) (in_channels p d (input_port p d k))) (waits_for (s.stage (input_port p d k) (input_channel p d k)) o && is_some (free_at p d tile s o k)) c).1 in
+      let rest =
+      (and-both (nat_lt (input_channel p d k) (in_channels p d (input_port p d k))) (waits_for (s.stage (input_port p d k) (input_channel p d k)) o && is_some (free_at p d tile s o k)) c).1 in
       (and-both (waits_for (s.stage (input_port p d k) (input_channel p d k)) o) (is_some (free_at p d tile s o k)) rest).1
 
   -- an input that waits for the output and whose channel is there: the set has it too, if a channel is free for it
-  more-set : (o i : ℕ) → candidate o i ≡ is_some (free_at p d tile s o i) → (k : ℕ) → with_input (sofar o i) (free_at p d tile s o) i k ≡ sofar o (i + 1) k
+  more-set : (o i : ℕ) → candidate o i ≡ is_some (free_at p d tile s o i) → (k : ℕ)
+      → with_input (sofar o i) (free_at p d tile s o) i k ≡ sofar o (i + 1) k
   more-set o i is k = go (is_some (free_at p d tile s o i)) refl
     where
-      go : (b : Bool) → is_some (free_at p d tile s o i) ≡ b → with_input (sofar o i) (free_at p d tile s o) i k ≡ sofar o (i + 1) k
+      go : (b : Bool) → is_some (free_at p d tile s o i) ≡ b
+          → with_input (sofar o i) (free_at p d tile s o) i k ≡ sofar o (i + 1) k
       go false e = ap (λ b. (if b then with_member (sofar o i) i else sofar o i) k) e ∙ same-set o i (is ∙ e) k
       go true e = ap (λ b. (if b then with_member (sofar o i) i else sofar o i) k) e
           ∙ ⊎_elim
@@ -103,13 +111,15 @@ module _ (p : Plan) (d : ℕ) (x : Allocator) (stages : List (List Stage)) (s : 
   holds o there = record { channels = made.class; held = λ w below. shows.held o w there below }
 
   class-there : (i o : ℕ) → i < many → class_of p d tile (input_port p d i) (input_channel p d i) o < classes p
-  class-there i o below = class-few p tile (input_port p d i) (unpack p d (input_channel p d i)).0 o (class-below p d (input_channel p d i) (channel-below p d i below))
+  class-there i o below =
+      class-few p tile (input_port p d i) (unpack p d (input_channel p d i)).0 o (class-below p d (input_channel p d i) (channel-below p d i below))
 
   module _ (bs : List (Option Winner)) (i : ℕ) (below : i < many) (long : length bs ≡ ports p) (before : (o : ℕ) → o < ports p → get_or bs o None ≡ best_sofar o i) where
     abbrev cur : Allocator
     cur = record x { best = bs }
 
-    routed-best : (out o : ℕ) → out < ports p → o < ports p → Routed out ≡ stage_at stages d i → nat_lt (input_channel p d i) (in_channels p d (input_port p d i)) ≡ true
+    routed-best : (out o : ℕ) → out < ports p → o < ports p → Routed out ≡ stage_at stages d i
+        → nat_lt (input_channel p d i) (in_channels p d (input_port p d i)) ≡ true
         → best_at (with_best cur out (wanted (pointer_at cur d out) (best_at cur out) i (free_in cur d out (class_of p d tile (input_port p d i) (input_channel p d i) out)))) o ≡ best_sofar o (i + 1)
     routed-best out o there inside e present =
         let class : ℕ = class_of p d tile (input_port p d i) (input_channel p d i) out in
@@ -134,16 +144,20 @@ module _ (p : Plan) (d : ℕ) (x : Allocator) (stages : List (List Stage)) (s : 
         get_or-set_other bs out o w None apart ∙ before o inside ∙ same-best o i (not-waiting o i (Routed out) below e none))
         (eqb_tells o out)
 
-    if-best : (b : Bool) (y z : Allocator) (o : ℕ) → best_at (if b then y else z) o ≡ (if b then best_at y o else best_at z o)
+    if-best : (b : Bool) (y z : Allocator) (o : ℕ)
+        → best_at (if b then y else z) o ≡ (if b then best_at y o else best_at z o)
     if-best true y z o = refl
     if-best false y z o = refl
 
-    pub step-best : (st : Stage) → st ≡ stage_at stages d i → GoesBelow (ports p) st → (o : ℕ) → o < ports p → best_at (wanted_at cur p d i st) o ≡ best_sofar o (i + 1)
+    pub step-best : (st : Stage) → st ≡ stage_at stages d i → GoesBelow (ports p) st → (o : ℕ) → o < ports p
+        → best_at (wanted_at cur p d i st) o ≡ best_sofar o (i + 1)
     step-best Idle e goes o inside = before o inside ∙ same-best o i (not-waiting o i Idle below e refl)
-    step-best (Active out w) e goes o inside = before o inside ∙ same-best o i (not-waiting o i (Active out w) below e refl)
+    step-best (Active out w) e goes o inside =
+        before o inside ∙ same-best o i (not-waiting o i (Active out w) below e refl)
     step-best (Routed out) e goes o inside = go (nat_lt (input_channel p d i) (in_channels p d (input_port p d i))) refl
       where
-        go : (b : Bool) → nat_lt (input_channel p d i) (in_channels p d (input_port p d i)) ≡ b → best_at (wanted_by cur p d i out) o ≡ best_sofar o (i + 1)
+        go : (b : Bool) → nat_lt (input_channel p d i) (in_channels p d (input_port p d i)) ≡ b
+            → best_at (wanted_by cur p d i out) o ≡ best_sofar o (i + 1)
         go true present = ap (λ b. best_at (if b then with_best cur out (wanted (pointer_at cur d out) (best_at cur out) i (free_in cur d out (class_of p d tile (input_port p d i) (input_channel p d i) out))) else cur) o) present
             ∙ routed-best out o goes inside e present
         go false absent = ap (λ b. best_at (if b then with_best cur out (wanted (pointer_at cur d out) (best_at cur out) i (free_in cur d out (class_of p d tile (input_port p d i) (input_channel p d i) out))) else cur) o) absent
@@ -160,12 +174,14 @@ pub some-class : (k c n : ℕ) → n ≡ k * c → 1 ≤ n → 1 ≤ c
 some-class k zero n e some = absurd (let none : k * 0 ≡ 0 = omega arith in omega (arith, none, e, some))
 some-class k (suc c) n e some = omega arith
 
-wanted-rest : (x : Allocator) (bs : List (Option Winner)) (p : Plan) (d i : ℕ) (st : Stage) → wanted_at (record x { best = bs }) p d i st ≡ record x { best = (wanted_at (record x { best = bs }) p d i st).best }
+wanted-rest : (x : Allocator) (bs : List (Option Winner)) (p : Plan) (d i : ℕ) (st : Stage)
+    → wanted_at (record x { best = bs }) p d i st ≡ record x { best = (wanted_at (record x { best = bs }) p d i st).best }
 wanted-rest x bs p d i Idle = refl
 wanted-rest x bs p d i (Active o w) = refl
 wanted-rest x bs p d i (Routed o) = go (nat_lt (input_channel p d i) (in_channels p d (input_port p d i))) _
   where
-    go : (b : Bool) (w : Option Winner) → (if b then with_best (record x { best = bs }) o w else record x { best = bs }) ≡ record x { best = (if b then with_best (record x { best = bs }) o w else record x { best = bs }).best }
+    go : (b : Bool) (w : Option Winner)
+        → (if b then with_best (record x { best = bs }) o w else record x { best = bs }) ≡ record x { best = (if b then with_best (record x { best = bs }) o w else record x { best = bs }).best }
     go true w = refl
     go false w = refl
 
@@ -178,7 +194,8 @@ wanted-long y p d i (Routed o) = go (nat_lt (input_channel p d i) (in_channels p
     go true w = length-set y.best o w
     go false w = refl
 
-pub knows-none : (x : Allocator) (p : Plan) (d : ℕ) (stages : List (List Stage)) → ((o : ℕ) → best_at x o ≡ None) → KnowsBelow 0 x x p d stages
+pub knows-none : (x : Allocator) (p : Plan) (d : ℕ) (stages : List (List Stage)) → ((o : ℕ) → best_at x o ≡ None)
+    → KnowsBelow 0 x x p d stages
 knows-none x p d stages quiet = record {
   rest = refl;
   long = refl;
@@ -189,8 +206,10 @@ knows-none x p d stages quiet = record {
       ∙ first-none (input_count p d) (s.allocation o) (free_at p d x.tile s o));
 }
 
-pub knows-more : (p : Plan) (d i : ℕ) (x y z : Allocator) (stages : List (List Stage)) (st : Stage) → IsFor x p d → 1 ≤ channels p d → i < input_count p d → KnowsBelow i x y p d stages
-    → st ≡ stage_at stages d i → GoesBelow (ports p) st → z ≡ wanted_at y p d i st → AreOf z d → KnowsBelow (i + 1) x z p d stages
+pub knows-more : (p : Plan) (d i : ℕ) (x y z : Allocator) (stages : List (List Stage)) (st : Stage) → IsFor x p d
+    → 1 ≤ channels p d → i < input_count p d → KnowsBelow i x y p d stages
+    → st ≡ stage_at stages d i → GoesBelow (ports p) st → z ≡ wanted_at y p d i st → AreOf z d
+    → KnowsBelow (i + 1) x z p d stages
 knows-more p d i x y z stages st made some below knows e goes is same =
     let cur : Allocator = record x { best = y.best } in
     let now : z ≡ wanted_at cur p d i st = is ∙ ap (λ w. wanted_at w p d i st) knows.rest in
@@ -202,7 +221,8 @@ knows-more p d i x y z stages st made some below knows e goes is same =
           ∙ step-best p d x stages s made shows some y.best i below (knows.long ∙ made.port_count) (λ k inside. knows.best s k shows inside) st e goes o there;
     }
 
-pub knows-all : (p : Plan) (d i : ℕ) (x y : Allocator) (stages : List (List Stage)) → input_count p d ≤ i → KnowsBelow i x y p d stages → (s : Tile) (o : ℕ) → Shows x stages p d s → o < ports p
+pub knows-all : (p : Plan) (d i : ℕ) (x y : Allocator) (stages : List (List Stage)) → input_count p d ≤ i
+    → KnowsBelow i x y p d stages → (s : Tile) (o : ℕ) → Shows x stages p d s → o < ports p
     → best_at y o ≡ winner_with (free_at p d x.tile s o) (winner p d x.tile s o)
 unfolding winner
 knows-all p d i x y stages past knows s o shows there =

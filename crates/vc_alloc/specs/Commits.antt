@@ -67,7 +67,8 @@ pub record HaveCommitted (x y : Allocator) (u v : List (List Stage)) (d o : ℕ)
 -- else what comes next stays
 abbrev pub allocated : Plan → ℕ → ℕ → Tile → ℕ → Stage → Stage → Stage
 allocated p d n s k Idle next = next
-allocated p d n s k (Routed o) next = if is_place (winner p d n s o) k then activated true o (taken_channel p d n s o) else next
+allocated p d n s k (Routed o) next =
+    if is_place (winner p d n s o) k then activated true o (taken_channel p d n s o) else next
 allocated p d n s k (Active o w) next = next
 
 -- The allocator x has become y for domain d, and what comes next of its stages, u, has become v: where it held the
@@ -77,7 +78,8 @@ pub record HasAllocated (x y : Allocator) (stages u v : List (List Stage)) (p : 
   pub active : (s : Tile) → Shows x stages p d s → (k : ℕ) → k < input_count p d
       → stage_at v d k ≡ allocated p d x.tile s k (stage_at stages d k) (stage_at u d k)
   pub holders : (s : Tile) → Shows x stages p d s → (o w : ℕ) → o < ports p → w < link_channels p d
-      → holder_at y d o w ≡ (if is_place (taken_channel p d x.tile s o) w then winner p d x.tile s o else holder_at x d o w)
+      → holder_at y d o w
+      ≡ (if is_place (taken_channel p d x.tile s o) w then winner p d x.tile s o else holder_at x d o w)
   pub held : (s : Tile) → Shows x stages p d s → (o w : ℕ) → o < ports p → w < link_channels p d
       → held_at y d o w ≡ (s.held o w || is_place (taken_channel p d x.tile s o) w)
   pub pointers : (s : Tile) → Shows x stages p d s → (o : ℕ) → o < ports p

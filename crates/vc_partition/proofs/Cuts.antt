@@ -15,7 +15,8 @@ length-cut xs [] = refl
 length-cut xs (c ∷ cs) = let e = length-cut (drop c xs) cs in omega (arith, e)
 
 -- where place i of lane d stands is within the vector
-pub place-within : {T : Type 0} (xs : List T) (cs : List ℕ) (d i : ℕ) → total cs ≡ length xs → d < length cs → i < length (lane (cut xs cs) d) → start_of cs d + i < length xs
+pub place-within : {T : Type 0} (xs : List T) (cs : List ℕ) (d i : ℕ) → total cs ≡ length xs → d < length cs
+    → i < length (lane (cut xs cs) d) → start_of cs d + i < length xs
 place-within xs [] d i whole there inside = absurd (omega (arith, there))
 place-within xs (c ∷ cs) zero i whole there inside = omega (arith, inside, length-take c xs)
 place-within xs (c ∷ cs) (suc d) i whole there inside =
@@ -24,7 +25,8 @@ place-within xs (c ∷ cs) (suc d) i whole there inside =
     omega (arith, rest, long, whole)
 
 -- a write to place i of lane d changes that lane at that place alone
-pub cut-set : {T : Type 0} (xs : List T) (cs : List ℕ) (d i : ℕ) (v : T) → total cs ≡ length xs → d < length cs → i < length (lane (cut xs cs) d)
+pub cut-set : {T : Type 0} (xs : List T) (cs : List ℕ) (d i : ℕ) (v : T) → total cs ≡ length xs → d < length cs
+    → i < length (lane (cut xs cs) d)
     → cut (set xs (start_of cs d + i) v) cs ≡ set (cut xs cs) d (set (lane (cut xs cs) d) i v)
 cut-set xs [] d i v whole there inside = absurd (omega (arith, there))
 cut-set xs (c ∷ cs) zero i v whole there inside =
@@ -44,7 +46,8 @@ cut-set xs (c ∷ cs) (suc d) i v whole there inside =
     ∙ ap (λ ys. take c xs ∷ ys) rest
 
 -- place i of lane d
-pub cut-get : {T : Type 0} (xs : List T) (cs : List ℕ) (d i : ℕ) (x : T) → total cs ≡ length xs → d < length cs → i < length (lane (cut xs cs) d)
+pub cut-get : {T : Type 0} (xs : List T) (cs : List ℕ) (d i : ℕ) (x : T) → total cs ≡ length xs → d < length cs
+    → i < length (lane (cut xs cs) d)
     → slice_get (lane (cut xs cs) d) i ≡ Some (get_or xs (start_of cs d + i) x)
 cut-get xs [] d i x whole there inside = absurd (omega (arith, there))
 cut-get xs (c ∷ cs) zero i x whole there inside =
@@ -84,8 +87,11 @@ pub start-all : (cs : List ℕ) → start_of cs (length cs) ≡ total cs
 start-all [] = refl
 start-all (c ∷ cs) = let e = start-all cs in omega (arith, e)
 
-pub start-is : {T : Type 0} (xs : List T) (cs ss : List ℕ) (d k : ℕ) → IsCut xs cs ss → d < length cs → k ≡ get_or ss d k → k ≡ start_of cs d
-start-is xs cs ss d k is there at = at ∙ ap (λ ys. get_or ys d k) is.begin ∙ get_or-map-range_with_len (start_of cs) 0 (length cs) d d k there (omega arith)
+pub start-is : {T : Type 0} (xs : List T) (cs ss : List ℕ) (d k : ℕ) → IsCut xs cs ss → d < length cs
+    → k ≡ get_or ss d k → k ≡ start_of cs d
+start-is xs cs ss d k is there at =
+    at ∙ ap (λ ys. get_or ys d k) is.begin
+    ∙ get_or-map-range_with_len (start_of cs) 0 (length cs) d d k there (omega arith)
 
 -- a call at place i of lane d, which begins at k
 pub record IsAt {T : Type 0} (xs : List T) (cs ss : List ℕ) (d i k : ℕ) (v : List (List T)) : Type 0 where
@@ -95,17 +101,20 @@ pub record IsAt {T : Type 0} (xs : List T) (cs ss : List ℕ) (d i k : ℕ) (v :
   pub inside : i < length (lane (cut xs cs) d)
   pub start : k ≡ start_of cs d
 
-lane-there : {T : Type 0} (xs : List T) (cs : List ℕ) (d : ℕ) (v : List (List T)) → cut xs cs ≡ v → d < length v → d < length cs
+lane-there : {T : Type 0} (xs : List T) (cs : List ℕ) (d : ℕ) (v : List (List T)) → cut xs cs ≡ v → d < length v
+    → d < length cs
 lane-there xs cs d v view there = let a = ap length view in let b = length-cut xs cs in omega (arith, a, b, there)
 
-pub starts-there : {T : Type 0} (xs : List T) (cs ss : List ℕ) (d : ℕ) (v : List (List T)) → IsCut xs cs ss → cut xs cs ≡ v → d < length v → d < length ss
+pub starts-there : {T : Type 0} (xs : List T) (cs ss : List ℕ) (d : ℕ) (v : List (List T)) → IsCut xs cs ss
+    → cut xs cs ≡ v → d < length v → d < length ss
 starts-there xs cs ss d v is view there =
     let a = lane-there xs cs d v view there in
     let b = ap length is.begin in
     let c = length-map-range_with_len (start_of cs) 0 (length cs) in
     omega (arith, a, b, c)
 
-pub is-at : {T : Type 0} (xs : List T) (cs ss : List ℕ) (d i k : ℕ) (v : List (List T)) → IsCut xs cs ss → cut xs cs ≡ v → d < length v → i < length (lane v d) → k ≡ get_or ss d k
+pub is-at : {T : Type 0} (xs : List T) (cs ss : List ℕ) (d i k : ℕ) (v : List (List T)) → IsCut xs cs ss → cut xs cs ≡ v
+    → d < length v → i < length (lane v d) → k ≡ get_or ss d k
     → IsAt xs cs ss d i k v
 is-at xs cs ss d i k v is view there inside at =
     let within = lane-there xs cs d v view there in
@@ -117,40 +126,58 @@ is-at xs cs ss d i k v is view there inside at =
       start = start-is xs cs ss d k is within at;
     }
 
-pub at-within : {T : Type 0} {xs : List T} {cs ss : List ℕ} {d i k : ℕ} {v : List (List T)} → IsAt xs cs ss d i k v → k + i < length xs
-at-within {xs} {cs} {ss} {d} {i} {k} {v} a = let b = place-within xs cs d i a.whole.whole a.there a.inside in let c = a.start in omega (arith, b, c)
+pub at-within : {T : Type 0} {xs : List T} {cs ss : List ℕ} {d i k : ℕ} {v : List (List T)} → IsAt xs cs ss d i k v
+    → k + i < length xs
+at-within {xs} {cs} {ss} {d} {i} {k} {v} a =
+    let b = place-within xs cs d i a.whole.whole a.there a.inside in
+    let c = a.start in
+    omega (arith, b, c)
 
-pub at-fits : {T : Type 0} {xs : List T} {cs ss : List ℕ} {d i k : ℕ} {v : List (List T)} → IsAt xs cs ss d i k v → k + i < 2 ^ 32
+pub at-fits : {T : Type 0} {xs : List T} {cs ss : List ℕ} {d i k : ℕ} {v : List (List T)} → IsAt xs cs ss d i k v
+    → k + i < 2 ^ 32
 at-fits a = let b = at-within a in let c = a.whole.few in omega (arith, b, c)
 
-pub at-value : {T : Type 0} {xs : List T} {cs ss : List ℕ} {d i k : ℕ} {v : List (List T)} (x : T) → IsAt xs cs ss d i k v → x ≡ get_or xs (k + i) x → slice_get (lane v d) i ≡ Some x
+pub at-value : {T : Type 0} {xs : List T} {cs ss : List ℕ} {d i k : ℕ} {v : List (List T)} (x : T)
+    → IsAt xs cs ss d i k v → x ≡ get_or xs (k + i) x → slice_get (lane v d) i ≡ Some x
 at-value {xs} {cs} {ss} {d} {i} {k} {v} x a value =
     ap (λ w. slice_get (lane w d) i) (sym a.is) ∙ cut-get xs cs d i x a.whole.whole a.there a.inside
     ∙ ap (λ s. Some (get_or xs (s + i) x)) (sym a.start) ∙ ap Some (sym value)
 
-pub at-set : {T : Type 0} {xs : List T} {cs ss : List ℕ} {d i k : ℕ} {v : List (List T)} (x : T) → IsAt xs cs ss d i k v → cut (set xs (k + i) x) cs ≡ set v d (set (lane v d) i x)
+pub at-set : {T : Type 0} {xs : List T} {cs ss : List ℕ} {d i k : ℕ} {v : List (List T)} (x : T) → IsAt xs cs ss d i k v
+    → cut (set xs (k + i) x) cs ≡ set v d (set (lane v d) i x)
 at-set {xs} {cs} {ss} {d} {i} {k} {v} x a =
     ap (λ s. cut (set xs (s + i) x) cs) a.start ∙ cut-set xs cs d i x a.whole.whole a.there a.inside
     ∙ ap (λ w. set w d (set (lane w d) i x)) a.is
 
 pub set-cut : {T : Type 0} {xs : List T} {cs ss : List ℕ} (j : ℕ) (x : T) → IsCut xs cs ss → IsCut (set xs j x) cs ss
-set-cut {xs} j x is = let a = length-set xs j x in record { whole = is.whole ∙ sym a; few = omega (arith, a, is.few); begin = is.begin }
+set-cut {xs} j x is =
+    let a = length-set xs j x in
+    record { whole = is.whole ∙ sym a; few = omega (arith, a, is.few); begin = is.begin }
 
-pub new-cut : {T : Type 0} (x : T) (cs : List ℕ) → total cs < 2 ^ 32 → IsCut (replicate (total cs) x) cs (map (start_of cs) (range_with_len 0 (length cs)))
-new-cut x cs few = let a = length-replicate (total cs) x in record { whole = sym a; few = omega (arith, a, few); begin = refl }
+pub new-cut : {T : Type 0} (x : T) (cs : List ℕ) → total cs < 2 ^ 32
+    → IsCut (replicate (total cs) x) cs (map (start_of cs) (range_with_len 0 (length cs)))
+new-cut x cs few =
+    let a = length-replicate (total cs) x in
+    record { whole = sym a; few = omega (arith, a, few); begin = refl }
 
 -- ---- the frame rule, in terms of places
 
 -- the place that was written has the value
-pub lane-written : {T : Type 0} (v : List (List T)) (d i : ℕ) (x y : T) → d < length v → i < length (lane v d) → get_or (lane (set v d (set (lane v d) i x)) d) i y ≡ x
-lane-written v d i x y there inside = ap (λ l. get_or l i y) (get_or-set_same v d (set (lane v d) i x) [] there) ∙ get_or-set_same (lane v d) i x y inside
+pub lane-written : {T : Type 0} (v : List (List T)) (d i : ℕ) (x y : T) → d < length v → i < length (lane v d)
+    → get_or (lane (set v d (set (lane v d) i x)) d) i y ≡ x
+lane-written v d i x y there inside =
+    ap (λ l. get_or l i y) (get_or-set_same v d (set (lane v d) i x) [] there) ∙ get_or-set_same (lane v d) i x y inside
 
 -- another place of the same lane stays
-pub lane-other : {T : Type 0} (v : List (List T)) (d i j : ℕ) (x y : T) → d < length v → j ≢ i → get_or (lane (set v d (set (lane v d) i x)) d) j y ≡ get_or (lane v d) j y
-lane-other v d i j x y there apart = ap (λ l. get_or l j y) (get_or-set_same v d (set (lane v d) i x) [] there) ∙ get_or-set_other (lane v d) i j x y apart
+pub lane-other : {T : Type 0} (v : List (List T)) (d i j : ℕ) (x y : T) → d < length v → j ≢ i
+    → get_or (lane (set v d (set (lane v d) i x)) d) j y ≡ get_or (lane v d) j y
+lane-other v d i j x y there apart =
+    ap (λ l. get_or l j y) (get_or-set_same v d (set (lane v d) i x) [] there)
+    ∙ get_or-set_other (lane v d) i j x y apart
 
 -- another lane stays
-pub lanes-other : {T : Type 0} (v : List (List T)) (d e i : ℕ) (x : T) → e ≢ d → lane (set v d (set (lane v d) i x)) e ≡ lane v e
+pub lanes-other : {T : Type 0} (v : List (List T)) (d e i : ℕ) (x : T) → e ≢ d
+    → lane (set v d (set (lane v d) i x)) e ≡ lane v e
 lanes-other v d e i x apart = get_or-set_other v d e (set (lane v d) i x) [] apart
 
 pub start-zero : (cs : List ℕ) → start_of cs 0 ≡ 0

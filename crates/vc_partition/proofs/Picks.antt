@@ -30,12 +30,14 @@ abbrev lesser : Option ℕ → ℕ → Option ℕ
 lesser None m = Some m
 lesser (Some k) m = Some (if nat_lt m k then m else k)
 
-step-before : (o : Option ℕ) (b c : Bool) (n m : ℕ) → m < n → option_or (lesser o m) (number_if c n) ≡ lesser (option_or o (number_if b n)) m
+step-before : (o : Option ℕ) (b c : Bool) (n m : ℕ) → m < n
+    → option_or (lesser o m) (number_if c n) ≡ lesser (option_or o (number_if b n)) m
 step-before None false c n m less = refl
 step-before None true c n m less = ap (λ t. Some (if t then m else n)) (sym (lt-ltb m n less))
 step-before (Some k) b c n m less = refl
 
-step-last : (o : Option ℕ) (b : Bool) (n m : ℕ) → n ≡ m → ((k : ℕ) → o ≡ Some k → k < n) → option_or o (Some n) ≡ lesser (option_or o (number_if b n)) m
+step-last : (o : Option ℕ) (b : Bool) (n m : ℕ) → n ≡ m → ((k : ℕ) → o ≡ Some k → k < n)
+    → option_or o (Some n) ≡ lesser (option_or o (number_if b n)) m
 step-last None false n m e h = ap Some e
 step-last None true n m e h = let t : nat_lt m n ≡ false = grind (arith, nat_tests) in ap (λ t. Some (if t then m else n)) (sym t)
 step-last (Some k) b n m e h = let less = h k refl in let t : nat_lt m k ≡ false = grind (arith, nat_tests) in ap (λ t. Some (if t then m else k)) (sym t)
@@ -59,7 +61,8 @@ least-insert (suc n) set m less = ⊎_elim
     let same : least n (with_member set m) ≡ least n set = least-same n (with_member set m) set
     (λ k below. let t : (k == m) ≡ false = grind (arith, nat_tests) in ap (λ w. set k || w) t ∙ or-false (set k)) in
     let is : with_member set m n ≡ true = let t : (n == m) ≡ true = grind (arith, nat_tests) in ap (λ w. set n || w) t ∙ or-true (set n) in
-    ap (λ o. option_or o (number_if (with_member set m n) n)) same ∙ ap (λ b. option_or (least n set) (number_if b n)) is
+    ap (λ o. option_or o (number_if (with_member set m n) n)) same
+    ∙ ap (λ b. option_or (least n set) (number_if b n)) is
     ∙ step-last (least n set) (set n) n m e (λ k at. (least-member n set k at).0))
     (cases_lt m n)
 
@@ -78,7 +81,8 @@ later-out true s false h = or-false s
 later-out false s e h = refl
 
 -- a member from the pointer on
-insert-late : (pointer m : ℕ) (l f : Option ℕ) → pointer ≤ m → ((k : ℕ) → l ≡ Some k → pointer ≤ k) → ((k : ℕ) → l ≡ None → f ≡ Some k → k < pointer)
+insert-late : (pointer m : ℕ) (l f : Option ℕ) → pointer ≤ m → ((k : ℕ) → l ≡ Some k → pointer ≤ k)
+    → ((k : ℕ) → l ≡ None → f ≡ Some k → k < pointer)
     → option_or (lesser l m) (lesser f m) ≡ better pointer (option_or l f) m
 insert-late pointer m (Some k) f late h h' =
     let there = h k refl in
@@ -95,7 +99,8 @@ insert-late pointer m None (Some k) late h h' =
     ∙ ap (λ t. Some (if (t || nat_lt m k) then m else k)) b)
 
 -- a member before the pointer
-insert-early : (pointer m : ℕ) (l f : Option ℕ) → m < pointer → ((k : ℕ) → l ≡ Some k → pointer ≤ k) → ((k : ℕ) → l ≡ None → f ≡ Some k → k < pointer)
+insert-early : (pointer m : ℕ) (l f : Option ℕ) → m < pointer → ((k : ℕ) → l ≡ Some k → pointer ≤ k)
+    → ((k : ℕ) → l ≡ None → f ≡ Some k → k < pointer)
     → option_or l (lesser f m) ≡ better pointer (option_or l f) m
 insert-early pointer m (Some k) f early h h' =
     let there = h k refl in
@@ -121,7 +126,8 @@ late-are n set pointer k e =
     let t = and-first (nat_le pointer k) (set k) in_set in
     grind (arith, nat_tests)
 
-early-are : (n : ℕ) (set : ℕ → Bool) (pointer k : ℕ) → least n (later pointer set) ≡ None → least n set ≡ Some k → k < pointer
+early-are : (n : ℕ) (set : ℕ → Bool) (pointer k : ℕ) → least n (later pointer set) ≡ None → least n set ≡ Some k
+    → k < pointer
 early-are n set pointer k none e =
     let found = least-member n set k e in
     let out = least-none n (later pointer set) k none found.0 in
@@ -133,12 +139,14 @@ early-are n set pointer k none e =
     and-out false b is e = refl
 
 -- the choice of a set with one member more is the better of the choice of the set and that member
-pub pick-insert : (n : ℕ) (set : ℕ → Bool) (pointer m : ℕ) → m < n → pick n (with_member set m) pointer ≡ better pointer (pick n set pointer) m
+pub pick-insert : (n : ℕ) (set : ℕ → Bool) (pointer m : ℕ) → m < n
+    → pick n (with_member set m) pointer ≡ better pointer (pick n set pointer) m
 unfolding pick
 pick-insert n set pointer m less =
     let all = least-insert n set m less in
     let late : (k : ℕ) → least n (later pointer set) ≡ Some k → pointer ≤ k = late-are n set pointer in
-    let early : (k : ℕ) → least n (later pointer set) ≡ None → least n set ≡ Some k → k < pointer = early-are n set pointer in
+    let early : (k : ℕ) → least n (later pointer set) ≡ None → least n set ≡ Some k → k < pointer =
+    early-are n set pointer in
     ⊎_elim
     (λ (before : m < pointer).
     let same : least n (later pointer (with_member set m)) ≡ least n (later pointer set) = least-same n (later pointer (with_member set m)) (later pointer set)
@@ -150,7 +158,8 @@ pick-insert n set pointer m less =
     least-same n (later pointer (with_member set m)) (with_member (later pointer set) m)
     (λ k below. later-in (nat_le pointer k) (set k) (k == m) (λ t. grind (arith, nat_tests)))
     ∙ least-insert n (later pointer set) m less in
-    ap (λ o. option_or o (least n (with_member set m))) same ∙ ap (λ o. option_or (lesser (least n (later pointer set)) m) o) all
+    ap (λ o. option_or o (least n (with_member set m))) same
+    ∙ ap (λ o. option_or (lesser (least n (later pointer set)) m) o) all
     ∙ insert-late pointer m (least n (later pointer set)) (least n set) after late early)
     (cases_lt m pointer)
 
@@ -171,12 +180,14 @@ all-from_zero : (n : ℕ) (set : ℕ → Bool) → least n (from_on 0 set) ≡ l
 all-from_zero n set = least-same n (from_on 0 set) set (λ k less. ap (λ b. b && set k) (leb-zero k))
 
 -- what is found from the pointer on is picked
-pub pick-later : (n : ℕ) (set : ℕ → Bool) (pointer k : ℕ) → Some k ≡ least n (from_on pointer set) → Some k ≡ pick n set pointer
+pub pick-later : (n : ℕ) (set : ℕ → Bool) (pointer k : ℕ) → Some k ≡ least n (from_on pointer set)
+    → Some k ≡ pick n set pointer
 unfolding pick
 pick-later n set pointer k e = sym (option-some (least n (from_on pointer set)) (least n set) k (sym e))
 
 -- where nothing is, the least member is picked
-pub pick-first : (n : ℕ) (set : ℕ → Bool) (pointer : ℕ) (o : Option ℕ) → None ≡ least n (from_on pointer set) → o ≡ least n (from_on 0 set) → o ≡ pick n set pointer
+pub pick-first : (n : ℕ) (set : ℕ → Bool) (pointer : ℕ) (o : Option ℕ) → None ≡ least n (from_on pointer set)
+    → o ≡ least n (from_on 0 set) → o ≡ pick n set pointer
 unfolding pick
 pick-first n set pointer o none e = e ∙ all-from_zero n set ∙ sym (ap (λ x. option_or x (least n set)) (sym none))
 
@@ -186,7 +197,8 @@ beyond-false (b ∷ bs) zero past = absurd (omega (arith, past))
 beyond-false (b ∷ bs) (suc k) past = beyond-false bs k (omega (arith, past))
 
 -- where the search from 0 on finds nothing, no place has true
-pub none-there : (set : List Bool) (o : Option ℕ) → o ≡ least (length set) (from_on 0 (member set)) → IfNone o ((k : ℕ) → member set k ≡ false)
+pub none-there : (set : List Bool) (o : Option ℕ) → o ≡ least (length set) (from_on 0 (member set))
+    → IfNone o ((k : ℕ) → member set k ≡ false)
 none-there set (Some k) e = tt
 none-there set None e = λ k. ⊎_elim
     (λ (below : k < length set). least-none (length set) (member set) k (sym (all-from_zero (length set) (member set)) ∙ sym e) below)

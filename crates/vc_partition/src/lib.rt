@@ -1,10 +1,9 @@
 //! Per-domain storage, the round-robin choice, and the numbers of inputs and channels.
 //!
-//! [`Lanes`] is one vector in which each domain has its own places: a write to a place of one domain leaves all else
-//! as it is, so what is kept there for a domain can't depend on another. [`pick`] is the round-robin arbiter's choice
-//! (Dally and Towles, section 18.4.2), and [`comes_first`] makes the same choice from one requester after the other, in
-//! any order. [`place`] numbers the inputs of a domain at a tile, and [`pack`] the channels of a class. Who requests
-//! what is left to the parts above.
+//! [`Lanes`] is one vector in which each domain has its own places: a write to one place leaves all others as they are,
+//! those of the other domains too. [`pick`] is the round-robin arbiter's choice (Dally and Towles, section 18.4.2), and
+//! [`comes_first`] makes the same choice from one requester after the other, in any order. [`place`] numbers the inputs
+//! of a domain at a tile, and [`pack`] the channels of a class. Who requests what is left to the parts above.
 #![tactic(auto)]
 
 mod choice;

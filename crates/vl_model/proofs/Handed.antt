@@ -27,35 +27,47 @@ abbrev ReadsNets : List Line → Item → Type 0
 ReadsNets all (assign n e) = AllByRecursion (λ m. is_kind is_net all m ≡ true) (nets_of e)
 ReadsNets all _ = Unit {0}
 
-nets-here : (all before rest : List Line) (ns : List Name) → all ≡ before ++ rest → list_all (is_kind is_net before) ns ≡ true → AllByRecursion (λ m. is_kind is_net all m ≡ true) ns
+nets-here : (all before rest : List Line) (ns : List Name) → all ≡ before ++ rest
+    → list_all (is_kind is_net before) ns ≡ true → AllByRecursion (λ m. is_kind is_net all m ≡ true) ns
 nets-here all before rest [] e k = tt
 nets-here all before rest (n ∷ ns) e k =
     let ks = and_parts (is_kind is_net before n) (list_all (is_kind is_net before) ns) k in
     let what = kind-of is_net before n ks.0 in
     (ap (λ l. is_kind is_net l n) e ∙ ap (kind_passes is_net) (lookup-front before rest n what.0 what.1) ∙ what.2, nets-here all before rest ns e ks.1)
 
-reads-nets : (ls : List Leaf) (all before : List Line) (is : List Item) → all ≡ before ++ map item is → Passes name_unknown (sites_behind ls all before (map item is)) → AllByRecursion (ReadsNets all) is
+reads-nets : (ls : List Leaf) (all before : List Line) (is : List Item) → all ≡ before ++ map item is
+    → Passes name_unknown (sites_behind ls all before (map item is)) → AllByRecursion (ReadsNets all) is
 reads-nets ls all before [] e p = tt
-reads-nets ls all before (wire h n ∷ is) e p = (tt, reads-nets ls all (before ++ item (wire h n) ∷ []) is (more all before (wire h n) is e) p.1)
-reads-nets ls all before (reg h n ∷ is) e p = (tt, reads-nets ls all (before ++ item (reg h n) ∷ []) is (more all before (reg h n) is e) p.1)
-reads-nets ls all before (mem h n last ∷ is) e p = (tt, reads-nets ls all (before ++ item (mem h n last) ∷ []) is (more all before (mem h n last) is e) p.1)
-reads-nets ls all before (clocked n k v ∷ is) e p = (tt, reads-nets ls all (before ++ item (clocked n k v) ∷ []) is (more all before (clocked n k v) is e) p.1)
-reads-nets ls all before (store c n i v ∷ is) e p = (tt, reads-nets ls all (before ++ item (store c n i v) ∷ []) is (more all before (store c n i v) is e) p.1)
+reads-nets ls all before (wire h n ∷ is) e p =
+    (tt, reads-nets ls all (before ++ item (wire h n) ∷ []) is (more all before (wire h n) is e) p.1)
+reads-nets ls all before (reg h n ∷ is) e p =
+    (tt, reads-nets ls all (before ++ item (reg h n) ∷ []) is (more all before (reg h n) is e) p.1)
+reads-nets ls all before (mem h n last ∷ is) e p =
+    (tt, reads-nets ls all (before ++ item (mem h n last) ∷ []) is (more all before (mem h n last) is e) p.1)
+reads-nets ls all before (clocked n k v ∷ is) e p =
+    (tt, reads-nets ls all (before ++ item (clocked n k v) ∷ []) is (more all before (clocked n k v) is e) p.1)
+reads-nets ls all before (store c n i v ∷ is) e p =
+    (tt, reads-nets ls all (before ++ item (store c n i v) ∷ []) is (more all before (store c n i v) is e) p.1)
 reads-nets ls all before (assign n v ∷ is) e p =
-    let parts = and_parts (is_kind is_driven before n) (knows before v) (known-here ls all before (item (assign n v)) (map item is) p) in
-    let reads = and_parts (list_all (is_kind is_net before) (nets_of v)) (list_all (λ (u : Use). is_kind is_memory before u.memory) (uses_of v)) parts.1 in
+    let parts =
+    and_parts (is_kind is_driven before n) (knows before v) (known-here ls all before (item (assign n v)) (map item is) p) in
+    let reads =
+    and_parts (list_all (is_kind is_net before) (nets_of v)) (list_all (λ (u : Use). is_kind is_memory before u.memory) (uses_of v)) parts.1 in
     (nets-here all before (map item (assign n v ∷ is)) (nets_of v) e reads.0, reads-nets ls all (before ++ item (assign n v) ∷ []) is (more all before (assign n v) is e) p.1)
 
 -- ---- through a leaf
 
 module _ (all : List Line) (P : Name → Type 0) where
-  each-read : (is : List Item) (ns : List Name) → ((m : Name) → is_kind is_net all m ≡ true → is_assigned is m ≡ false → P m) → AllByRecursion (λ m. is_kind is_net all m ≡ true) ns
+  each-read : (is : List Item) (ns : List Name)
+      → ((m : Name) → is_kind is_net all m ≡ true → is_assigned is m ≡ false → P m)
+      → AllByRecursion (λ m. is_kind is_net all m ≡ true) ns
       → AllByRecursion (λ m. is_assigned is m ≡ false) ns → AllByRecursion P ns
   each-read is [] h a b = tt
   each-read is (n ∷ ns) h a b = (h n a.0 b.0, each-read is ns h a.1 b.1)
 
   -- where all that is not assigned from here on has P, all nets have it
-  pub along : (is : List Item) → InOrder is → AllByRecursion (ReadsNets all) is → AllByRecursion (HandsOn P) is → ((m : Name) → is_kind is_net all m ≡ true → is_assigned is m ≡ false → P m)
+  pub along : (is : List Item) → InOrder is → AllByRecursion (ReadsNets all) is → AllByRecursion (HandsOn P) is
+      → ((m : Name) → is_kind is_net all m ≡ true → is_assigned is m ≡ false → P m)
       → (m : Name) → is_kind is_net all m ≡ true → P m
   along [] o r a h m k = h m k refl
   along (wire x n ∷ is) o r a h m k = along is o r.1 a.1 h m k
@@ -71,7 +83,8 @@ module _ (all : List Line) (P : Name → Type 0) where
 
 -- ---- what does not depend on inputs
 
-pub depends-outside : (ns : List Name) (is : List Item) (m : Name) → is_assigned is m ≡ false → list_any (bytes_eq m) ns ≡ false → list_any (bytes_eq m) (all_depending ns (map item is)) ≡ false
+pub depends-outside : (ns : List Name) (is : List Item) (m : Name) → is_assigned is m ≡ false
+    → list_any (bytes_eq m) ns ≡ false → list_any (bytes_eq m) (all_depending ns (map item is)) ≡ false
 depends-outside ns [] m f h = h
 depends-outside ns (wire x n ∷ is) m f h = depends-outside ns is m f h
 depends-outside ns (reg x n ∷ is) m f h = depends-outside ns is m f h
@@ -88,17 +101,20 @@ depends-outside ns (assign n v ∷ is) m f h =
 
 -- the part of P that does not depend on these names is handed on
 module _ (P : Name → Type 0) where
-  pure-reads : (D : List Name) (ns ms : List Name) → AllByRecursion (λ m. list_any (bytes_eq m) D ≡ false → P m) ms → AllByRecursion (λ m. list_any (bytes_eq m) ns ≡ false → list_any (bytes_eq m) D ≡ false) ms
+  pure-reads : (D : List Name) (ns ms : List Name) → AllByRecursion (λ m. list_any (bytes_eq m) D ≡ false → P m) ms
+      → AllByRecursion (λ m. list_any (bytes_eq m) ns ≡ false → list_any (bytes_eq m) D ≡ false) ms
       → list_any (λ k. list_any (bytes_eq k) ns) ms ≡ false → AllByRecursion P ms
   pure-reads D ns [] a b f = tt
   pure-reads D ns (m ∷ ms) a b f =
       let fs = or_parts (list_any (bytes_eq m) ns) (list_any (λ k. list_any (bytes_eq k) ns) ms) f in (a.0 (b.0 fs.0), pure-reads D ns ms a.1 b.1 fs.1)
 
-  outside-all : (ns : List Name) (is : List Item) (ms : List Name) → AllByRecursion (λ m. is_assigned is m ≡ false) ms → AllByRecursion (λ m. list_any (bytes_eq m) ns ≡ false → list_any (bytes_eq m) (all_depending ns (map item is)) ≡ false) ms
+  outside-all : (ns : List Name) (is : List Item) (ms : List Name) → AllByRecursion (λ m. is_assigned is m ≡ false) ms
+      → AllByRecursion (λ m. list_any (bytes_eq m) ns ≡ false → list_any (bytes_eq m) (all_depending ns (map item is)) ≡ false) ms
   outside-all ns is [] a = tt
   outside-all ns is (m ∷ ms) a = ((λ h. depends-outside ns is m a.0 h), outside-all ns is ms a.1)
 
-  pub hands-pure : (ns : List Name) (is : List Item) → InOrder is → AllByRecursion (HandsOn P) is → AllByRecursion (HandsOn (λ m. list_any (bytes_eq m) (all_depending ns (map item is)) ≡ false → P m)) is
+  pub hands-pure : (ns : List Name) (is : List Item) → InOrder is → AllByRecursion (HandsOn P) is
+      → AllByRecursion (HandsOn (λ m. list_any (bytes_eq m) (all_depending ns (map item is)) ≡ false → P m)) is
   hands-pure ns [] o a = tt
   hands-pure ns (wire x n ∷ is) o a = (tt, hands-pure ns is o a.1)
   hands-pure ns (reg x n ∷ is) o a = (tt, hands-pure ns is o a.1)
@@ -110,17 +126,20 @@ module _ (P : Name → Type 0) where
       D : List Name
       D = all_depending ns (map item (assign n v ∷ is))
 
-      go : AllByRecursion (λ m. list_any (bytes_eq m) D ≡ false → P m) (nets_of v) → list_any (bytes_eq n) D ≡ false → (b : Bool) → list_any (λ k. list_any (bytes_eq k) ns) (nets_of v) ≡ b → P n
+      go : AllByRecursion (λ m. list_any (bytes_eq m) D ≡ false → P m) (nets_of v) → list_any (bytes_eq n) D ≡ false
+          → (b : Bool) → list_any (λ k. list_any (bytes_eq k) ns) (nets_of v) ≡ b → P n
       go given free true some =
           absurd (both_ways (list_any (bytes_eq n) D) free
           (stays (depending ns (item (assign n v))) (map item is) n (subst (λ b. list_any (bytes_eq n) (if b then n ∷ ns else ns) ≡ true) (sym some) (or_left (bytes_eq n n) (list_any (bytes_eq n) ns) (itself n)))))
-      go given free false none = a.0 (pure-reads D ns (nets_of v) given (outside-all ns (assign n v ∷ is) (nets_of v) o.0) none)
+      go given free false none =
+          a.0 (pure-reads D ns (nets_of v) given (outside-all ns (assign n v ∷ is) (nets_of v) o.0) none)
 
 -- ---- one leaf
 
 module _ (l : Leaf) (g : GoodLeaf l) (reads : AllByRecursion (ReadsNets (leaf_lines l)) l.items) (P : Name → Type 0) (hands : AllByRecursion (HandsOn P) l.items)
     (registers : (n : Name) → is_kind is_register (leaf_lines l) n ≡ true → P n) where
-  base : (Q : Name → Type 0) → ((n : Name) → is_kind is_register (leaf_lines l) n ≡ true → Q n) → ((n : Name) → is_kind is_input (leaf_lines l) n ≡ true → Q n)
+  base : (Q : Name → Type 0) → ((n : Name) → is_kind is_register (leaf_lines l) n ≡ true → Q n)
+      → ((n : Name) → is_kind is_input (leaf_lines l) n ≡ true → Q n)
       → (m : Name) → is_kind is_net (leaf_lines l) m ≡ true → is_assigned l.items m ≡ false → Q m
   base Q regs ins m k f = go what.0.kind refl
     where
@@ -129,14 +148,17 @@ module _ (l : Leaf) (g : GoodLeaf l) (reads : AllByRecursion (ReadsNets (leaf_li
 
       go : (c : Kind) → what.0.kind ≡ c → Q m
       go Input e = ins m (ap (kind_passes is_input) what.1 ∙ ap is_input e)
-      go Output e = absurd (both_ways (is_assigned l.items m) f (g.driven m (ap (kind_passes is_driven) what.1 ∙ ap is_driven e)))
-      go Inner e = absurd (both_ways (is_assigned l.items m) f (g.driven m (ap (kind_passes is_driven) what.1 ∙ ap is_driven e)))
+      go Output e =
+          absurd (both_ways (is_assigned l.items m) f (g.driven m (ap (kind_passes is_driven) what.1 ∙ ap is_driven e)))
+      go Inner e =
+          absurd (both_ways (is_assigned l.items m) f (g.driven m (ap (kind_passes is_driven) what.1 ∙ ap is_driven e)))
       go Register e = regs m (ap (kind_passes is_register) what.1 ∙ ap is_register e)
       go Memory e = absurd (false≢true (sym (ap is_net e) ∙ what.2))
       go Child e = absurd (false≢true (sym (ap is_net e) ∙ what.2))
 
   -- with the inputs, all nets
-  pub leaf-all : ((n : Name) → is_kind is_input (leaf_lines l) n ≡ true → P n) → (m : Name) → is_kind is_net (leaf_lines l) m ≡ true → P m
+  pub leaf-all : ((n : Name) → is_kind is_input (leaf_lines l) n ≡ true → P n) → (m : Name)
+      → is_kind is_net (leaf_lines l) m ≡ true → P m
   leaf-all ins = along (leaf_lines l) P l.items g.order reads hands (base P registers ins)
 
   -- without them, the outputs
@@ -148,7 +170,8 @@ module _ (l : Leaf) (g : GoodLeaf l) (reads : AllByRecursion (ReadsNets (leaf_li
       Pure : Name → Type 0
       Pure m = list_any (bytes_eq m) (all_depending (all_depending [] (front l)) (map item l.items)) ≡ false → P m
 
-      inputs : (m : Name) → is_kind is_input (leaf_lines l) m ≡ true → list_any (bytes_eq m) (all_depending (all_depending [] (front l)) (map item l.items)) ≡ false → ⊥
+      inputs : (m : Name) → is_kind is_input (leaf_lines l) m ≡ true
+          → list_any (bytes_eq m) (all_depending (all_depending [] (front l)) (map item l.items)) ≡ false → ⊥
       inputs m k free =
           let q = leaf-input l m k in
           both_ways (list_any (bytes_eq m) (all_depending (all_depending [] (front l)) (map item l.items))) free (stays (all_depending [] (front l)) (map item l.items) m (input-depends [] l.ports m q.0 q.1 q.2))
@@ -221,14 +244,18 @@ module _ (d : Design) (sound : IsSound d) (T : Name → Type 0) (I : Name → Na
       go Memory e = absurd (false≢true (sym (ap is_net e) ∙ what.2))
       go Child e = absurd (false≢true (sym (ap is_net e) ∙ what.2))
 
-  input-has : (l : Leaf) (i : Name) (js : List Join) → Facts l i js → (n : Name) → is_kind is_input (leaf_lines l) n ≡ true → I i n
+  input-has : (l : Leaf) (i : Name) (js : List Join) → Facts l i js → (n : Name)
+      → is_kind is_input (leaf_lines l) n ≡ true → I i n
   input-has l i js f n k = go (find (λ (j : Join). bytes_eq n j.port) js) refl
     where
       p : (p : Port) × (port_named l.ports n ≡ Some p) × (p.output ≡ false)
       p = leaf-input l n k
 
       go : (o : Option Join) → find (λ (j : Join). bytes_eq n j.port) js ≡ o → I i n
-      go None e = let one = port-join l js f.0.each n p.0 p.1 in let none = found-none (λ (j : Join). bytes_eq n j.port) js e in absurd (omega arith)
+      go None e =
+          let one = port-join l js f.0.each n p.0 p.1 in
+          let none = found-none (λ (j : Join). bytes_eq n j.port) js e in
+          absurd (omega arith)
       go (Some j) e =
           let has = found-has (λ (j : Join). bytes_eq n j.port) (λ (j : Join). GoodJoin (top_lines d.top) l j × (I i j.port ↔ T j.net)) js j e
           (all-both (GoodJoin (top_lines d.top) l) (λ (j : Join). I i j.port ↔ T j.net) (λ (j : Join). bytes_eq n j.port ≡ true → GoodJoin (top_lines d.top) l j × (I i j.port ↔ T j.net)) (λ j a b t. (a, b)) js f.0.joins f.4) in

@@ -36,7 +36,8 @@ clock-counts ls (assign n e ∷ is) m c = let rest = clock-counts ls is m c in o
 clock-counts ls (store d n i e ∷ is) m c = let rest = clock-counts ls is m c in omega arith
 clock-counts ls (clocked n k e ∷ is) m c = go (clock-counts ls is m) (bytes_eq m n) refl
   where
-    go : (is_clocked is m ≡ true → 1 ≤ drivers ls (map item is) m) → (b : Bool) → bytes_eq m n ≡ b → 1 ≤ drivers ls (map item (clocked n k e ∷ is)) m
+    go : (is_clocked is m ≡ true → 1 ≤ drivers ls (map item is) m) → (b : Bool) → bytes_eq m n ≡ b
+        → 1 ≤ drivers ls (map item (clocked n k e ∷ is)) m
     go later true same = let one = named-counts m n same in omega arith
     go later false other = let rest = later (rw other at c) in omega arith
 
@@ -49,16 +50,19 @@ store-counts ls (assign n e ∷ is) m c = let rest = store-counts ls is m c in o
 store-counts ls (clocked n k e ∷ is) m c = let rest = store-counts ls is m c in omega arith
 store-counts ls (store d n i e ∷ is) m c = go (store-counts ls is m) (bytes_eq m n) refl
   where
-    go : (is_stored is m ≡ true → 1 ≤ drivers ls (map item is) m) → (b : Bool) → bytes_eq m n ≡ b → 1 ≤ drivers ls (map item (store d n i e ∷ is)) m
+    go : (is_stored is m ≡ true → 1 ≤ drivers ls (map item is) m) → (b : Bool) → bytes_eq m n ≡ b
+        → 1 ≤ drivers ls (map item (store d n i e ∷ is)) m
     go later true same = let one = named-counts m n same in omega arith
     go later false other = let rest = later (rw other at c) in omega arith
 
 module _ (ls : List Leaf) (all : List Line) where
   -- what has one driver, and has it here, has none later
-  none-left : (before : List Line) (x : Item) (is : List Item) (m : Name) → all ≡ before ++ map item (x ∷ is) → drivers ls all m ≡ 1 → 1 ≤ drives ls m (item x) → drivers ls (map item is) m ≡ 0
+  none-left : (before : List Line) (x : Item) (is : List Item) (m : Name) → all ≡ before ++ map item (x ∷ is)
+      → drivers ls all m ≡ 1 → 1 ≤ drives ls m (item x) → drivers ls (map item is) m ≡ 0
   none-left before x is m e one here = let parts : drivers ls all m ≡ drivers ls before m + (drives ls m (item x) + drivers ls (map item is) m) = ap (λ l. drivers ls l m) e ∙ drivers-append ls before (map item (x ∷ is)) m in omega arith
 
-  target-once : (test : Kind → Bool) → ((k : Kind) → test k ≡ true → wants_driver k ≡ true) → Passes wrong_driver (module_sites ls all) → (before rest : List Line) (n : Name) → all ≡ before ++ rest
+  target-once : (test : Kind → Bool) → ((k : Kind) → test k ≡ true → wants_driver k ≡ true)
+      → Passes wrong_driver (module_sites ls all) → (before rest : List Line) (n : Name) → all ≡ before ++ rest
       → is_kind test before n ≡ true → drivers ls all n ≡ 1
   target-once test wants once before rest n e k =
       let what = kind-of test before n k in
@@ -80,14 +84,20 @@ module _ (ls : List Leaf) (all : List Line) where
   memory-wants Memory e = refl
   memory-wants Child e = absurd (false≢true e)
 
-  pub are-once : Passes wrong_driver (module_sites ls all) → (before : List Line) (is : List Item) → all ≡ before ++ map item is → Passes name_unknown (sites_behind ls all before (map item is)) → AreOnce is
+  pub are-once : Passes wrong_driver (module_sites ls all) → (before : List Line) (is : List Item)
+      → all ≡ before ++ map item is → Passes name_unknown (sites_behind ls all before (map item is)) → AreOnce is
   are-once once before [] e known = tt
-  are-once once before (wire h n ∷ is) e known = are-once once (before ++ item (wire h n) ∷ []) is (more all before (wire h n) is e) known.1
-  are-once once before (reg h n ∷ is) e known = are-once once (before ++ item (reg h n) ∷ []) is (more all before (reg h n) is e) known.1
-  are-once once before (mem h n last ∷ is) e known = are-once once (before ++ item (mem h n last) ∷ []) is (more all before (mem h n last) is e) known.1
-  are-once once before (assign n v ∷ is) e known = are-once once (before ++ item (assign n v) ∷ []) is (more all before (assign n v) is e) known.1
+  are-once once before (wire h n ∷ is) e known =
+      are-once once (before ++ item (wire h n) ∷ []) is (more all before (wire h n) is e) known.1
+  are-once once before (reg h n ∷ is) e known =
+      are-once once (before ++ item (reg h n) ∷ []) is (more all before (reg h n) is e) known.1
+  are-once once before (mem h n last ∷ is) e known =
+      are-once once (before ++ item (mem h n last) ∷ []) is (more all before (mem h n last) is e) known.1
+  are-once once before (assign n v ∷ is) e known =
+      are-once once (before ++ item (assign n v) ∷ []) is (more all before (assign n v) is e) known.1
   are-once once before (clocked n k v ∷ is) e known =
-      let target = (and_parts (is_kind is_register before n) (knows before v) (known-here ls all before (item (clocked n k v)) (map item is) known)).0 in
+      let target =
+      (and_parts (is_kind is_register before n) (knows before v) (known-here ls all before (item (clocked n k v)) (map item is) known)).0 in
       let one = target-once is_register register-wants once before (map item (clocked n k v ∷ is)) n e target in
       let itself-counts = named-counts n n (itself n) in
       let none = none-left before (clocked n k v) is n e one (omega arith) in (
@@ -95,7 +105,8 @@ module _ (ls : List Leaf) (all : List Line) where
         are-once once (before ++ item (clocked n k v) ∷ []) is (more all before (clocked n k v) is e) known.1,
       )
   are-once once before (store c n i v ∷ is) e known =
-      let target = (and_parts (is_kind is_memory before n) (knows before c && (knows before i && knows before v)) (known-here ls all before (item (store c n i v)) (map item is) known)).0 in
+      let target =
+      (and_parts (is_kind is_memory before n) (knows before c && (knows before i && knows before v)) (known-here ls all before (item (store c n i v)) (map item is) known)).0 in
       let one = target-once is_memory memory-wants once before (map item (store c n i v ∷ is)) n e target in
       let itself-counts = named-counts n n (itself n) in
       let none = none-left before (store c n i v) is n e one (omega arith) in (
@@ -112,12 +123,20 @@ module _ (ls : List Leaf) (all : List Line) where
   register-memory Child a b = false≢true a
 
   -- a register that no item clocks has no driver; so for memories
-  none-clocks : (before : List Line) (is : List Item) (m : Name) → all ≡ before ++ map item is → is_kind is_register all m ≡ true → Passes name_unknown (sites_behind ls all before (map item is)) → is_clocked is m ≡ false
+  none-clocks : (before : List Line) (is : List Item) (m : Name) → all ≡ before ++ map item is
+      → is_kind is_register all m ≡ true → Passes name_unknown (sites_behind ls all before (map item is))
+      → is_clocked is m ≡ false
       → drivers ls (map item is) m ≡ 0
   none-clocks before [] m e k p f = refl
-  none-clocks before (wire h n ∷ is) m e k p f = let rest = none-clocks (before ++ item (wire h n) ∷ []) is m (more all before (wire h n) is e) k p.1 f in omega arith
-  none-clocks before (reg h n ∷ is) m e k p f = let rest = none-clocks (before ++ item (reg h n) ∷ []) is m (more all before (reg h n) is e) k p.1 f in omega arith
-  none-clocks before (mem h n last ∷ is) m e k p f = let rest = none-clocks (before ++ item (mem h n last) ∷ []) is m (more all before (mem h n last) is e) k p.1 f in omega arith
+  none-clocks before (wire h n ∷ is) m e k p f =
+      let rest = none-clocks (before ++ item (wire h n) ∷ []) is m (more all before (wire h n) is e) k p.1 f in
+      omega arith
+  none-clocks before (reg h n ∷ is) m e k p f =
+      let rest = none-clocks (before ++ item (reg h n) ∷ []) is m (more all before (reg h n) is e) k p.1 f in
+      omega arith
+  none-clocks before (mem h n last ∷ is) m e k p f =
+      let rest = none-clocks (before ++ item (mem h n last) ∷ []) is m (more all before (mem h n last) is e) k p.1 f in
+      omega arith
   none-clocks before (clocked n c v ∷ is) m e k p f =
       let fs = or_parts (bytes_eq m n) (is_clocked is m) f in
       let here : one_if (bytes_eq m n) ≡ 0 = ap one_if fs.0 in
@@ -131,12 +150,20 @@ module _ (ls : List Leaf) (all : List Line) where
       (and_parts (is_kind is_memory before n) (knows before c && (knows before i && knows before v)) (known-here ls all before (item (store c n i v)) (map item is) p)).0 in
       let rest = none-clocks (before ++ item (store c n i v) ∷ []) is m (more all before (store c n i v) is e) k p.1 f in omega arith
 
-  none-stores : (before : List Line) (is : List Item) (m : Name) → all ≡ before ++ map item is → is_kind is_memory all m ≡ true → Passes name_unknown (sites_behind ls all before (map item is)) → is_stored is m ≡ false
+  none-stores : (before : List Line) (is : List Item) (m : Name) → all ≡ before ++ map item is
+      → is_kind is_memory all m ≡ true → Passes name_unknown (sites_behind ls all before (map item is))
+      → is_stored is m ≡ false
       → drivers ls (map item is) m ≡ 0
   none-stores before [] m e k p f = refl
-  none-stores before (wire h n ∷ is) m e k p f = let rest = none-stores (before ++ item (wire h n) ∷ []) is m (more all before (wire h n) is e) k p.1 f in omega arith
-  none-stores before (reg h n ∷ is) m e k p f = let rest = none-stores (before ++ item (reg h n) ∷ []) is m (more all before (reg h n) is e) k p.1 f in omega arith
-  none-stores before (mem h n last ∷ is) m e k p f = let rest = none-stores (before ++ item (mem h n last) ∷ []) is m (more all before (mem h n last) is e) k p.1 f in omega arith
+  none-stores before (wire h n ∷ is) m e k p f =
+      let rest = none-stores (before ++ item (wire h n) ∷ []) is m (more all before (wire h n) is e) k p.1 f in
+      omega arith
+  none-stores before (reg h n ∷ is) m e k p f =
+      let rest = none-stores (before ++ item (reg h n) ∷ []) is m (more all before (reg h n) is e) k p.1 f in
+      omega arith
+  none-stores before (mem h n last ∷ is) m e k p f =
+      let rest = none-stores (before ++ item (mem h n last) ∷ []) is m (more all before (mem h n last) is e) k p.1 f in
+      omega arith
   none-stores before (store c n i v ∷ is) m e k p f =
       let fs = or_parts (bytes_eq m n) (is_stored is m) f in
       let here : one_if (bytes_eq m n) ≡ 0 = ap one_if fs.0 in
@@ -151,20 +178,30 @@ module _ (ls : List Leaf) (all : List Line) where
       let rest = none-stores (before ++ item (clocked n c v) ∷ []) is m (more all before (clocked n c v) is e) k p.1 f in omega arith
 
   -- what is clocked is a register
-  pub clocks-register : (before : List Line) (is : List Item) (m : Name) → all ≡ before ++ map item is → Passes name_unknown (sites_behind ls all before (map item is)) → is_clocked is m ≡ true → is_kind is_register all m ≡ true
+  pub clocks-register : (before : List Line) (is : List Item) (m : Name) → all ≡ before ++ map item is
+      → Passes name_unknown (sites_behind ls all before (map item is)) → is_clocked is m ≡ true
+      → is_kind is_register all m ≡ true
   clocks-register before [] m e p c = absurd (false≢true c)
-  clocks-register before (wire h n ∷ is) m e p c = clocks-register (before ++ item (wire h n) ∷ []) is m (more all before (wire h n) is e) p.1 c
-  clocks-register before (reg h n ∷ is) m e p c = clocks-register (before ++ item (reg h n) ∷ []) is m (more all before (reg h n) is e) p.1 c
-  clocks-register before (mem h n last ∷ is) m e p c = clocks-register (before ++ item (mem h n last) ∷ []) is m (more all before (mem h n last) is e) p.1 c
-  clocks-register before (assign n v ∷ is) m e p c = clocks-register (before ++ item (assign n v) ∷ []) is m (more all before (assign n v) is e) p.1 c
-  clocks-register before (store d n i v ∷ is) m e p c = clocks-register (before ++ item (store d n i v) ∷ []) is m (more all before (store d n i v) is e) p.1 c
+  clocks-register before (wire h n ∷ is) m e p c =
+      clocks-register (before ++ item (wire h n) ∷ []) is m (more all before (wire h n) is e) p.1 c
+  clocks-register before (reg h n ∷ is) m e p c =
+      clocks-register (before ++ item (reg h n) ∷ []) is m (more all before (reg h n) is e) p.1 c
+  clocks-register before (mem h n last ∷ is) m e p c =
+      clocks-register (before ++ item (mem h n last) ∷ []) is m (more all before (mem h n last) is e) p.1 c
+  clocks-register before (assign n v ∷ is) m e p c =
+      clocks-register (before ++ item (assign n v) ∷ []) is m (more all before (assign n v) is e) p.1 c
+  clocks-register before (store d n i v ∷ is) m e p c =
+      clocks-register (before ++ item (store d n i v) ∷ []) is m (more all before (store d n i v) is e) p.1 c
   clocks-register before (clocked n k v ∷ is) m e p c = go (clocks-register (before ++ item (clocked n k v) ∷ []) is m (more all before (clocked n k v) is e) p.1) (bytes_eq m n) refl
     where
-      go : (is_clocked is m ≡ true → is_kind is_register all m ≡ true) → (b : Bool) → bytes_eq m n ≡ b → is_kind is_register all m ≡ true
+      go : (is_clocked is m ≡ true → is_kind is_register all m ≡ true) → (b : Bool) → bytes_eq m n ≡ b
+          → is_kind is_register all m ≡ true
       go later false other = later (rw other at c)
       go later true same =
-          let what = kind-of is_register before n (and_parts (is_kind is_register before n) (knows before v) (known-here ls all before (item (clocked n k v)) (map item is) p)).0 in
-          ap (is_kind is_register all) (one-name m n same) ∙ ap (λ l. is_kind is_register l n) e ∙ ap (kind_passes is_register) (lookup-front before (map item (clocked n k v ∷ is)) n what.0 what.1) ∙ what.2
+          let what =
+          kind-of is_register before n (and_parts (is_kind is_register before n) (knows before v) (known-here ls all before (item (clocked n k v)) (map item is) p)).0 in
+          ap (is_kind is_register all) (one-name m n same) ∙ ap (λ l. is_kind is_register l n) e
+          ∙ ap (kind_passes is_register) (lookup-front before (map item (clocked n k v ∷ is)) n what.0 what.1) ∙ what.2
 
 register-net : (k : Kind) → is_register k ≡ true → is_net k ≡ true
 register-net Input e = refl
@@ -174,21 +211,30 @@ register-net Register e = refl
 register-net Memory e = absurd (false≢true e)
 register-net Child e = absurd (false≢true e)
 
-pub moves : (v : Values) (ls : List Leaf) (all before : List Line) (is : List Item) → all ≡ before ++ map item is → list_all plain_item is ≡ true → Passes name_unknown (sites_behind ls all before (map item is))
+pub moves : (v : Values) (ls : List Leaf) (all before : List Line) (is : List Item) → all ≡ before ++ map item is
+    → list_all plain_item is ≡ true → Passes name_unknown (sites_behind ls all before (map item is))
     → Passes wrong_width (sites_behind ls all before (map item is)) → AllByRecursion (Moves (widths all) v) is
 unfolding wrong_width
 moves v ls all before [] e plain known p = tt
-moves v ls all before (wire h n ∷ is) e plain known p = (tt, moves v ls all (before ++ item (wire h n) ∷ []) is (more all before (wire h n) is e) (and_parts (plain_item (wire h n)) (list_all plain_item is) plain).1 known.1 p.1)
-moves v ls all before (reg h n ∷ is) e plain known p = (tt, moves v ls all (before ++ item (reg h n) ∷ []) is (more all before (reg h n) is e) (and_parts (plain_item (reg h n)) (list_all plain_item is) plain).1 known.1 p.1)
-moves v ls all before (mem h n last ∷ is) e plain known p = (tt, moves v ls all (before ++ item (mem h n last) ∷ []) is (more all before (mem h n last) is e) (and_parts (plain_item (mem h n last)) (list_all plain_item is) plain).1 known.1 p.1)
-moves v ls all before (assign n x ∷ is) e plain known p = (tt, moves v ls all (before ++ item (assign n x) ∷ []) is (more all before (assign n x) is e) (and_parts (plain_item (assign n x)) (list_all plain_item is) plain).1 known.1 p.1)
+moves v ls all before (wire h n ∷ is) e plain known p =
+    (tt, moves v ls all (before ++ item (wire h n) ∷ []) is (more all before (wire h n) is e) (and_parts (plain_item (wire h n)) (list_all plain_item is) plain).1 known.1 p.1)
+moves v ls all before (reg h n ∷ is) e plain known p =
+    (tt, moves v ls all (before ++ item (reg h n) ∷ []) is (more all before (reg h n) is e) (and_parts (plain_item (reg h n)) (list_all plain_item is) plain).1 known.1 p.1)
+moves v ls all before (mem h n last ∷ is) e plain known p =
+    (tt, moves v ls all (before ++ item (mem h n last) ∷ []) is (more all before (mem h n last) is e) (and_parts (plain_item (mem h n last)) (list_all plain_item is) plain).1 known.1 p.1)
+moves v ls all before (assign n x ∷ is) e plain known p =
+    (tt, moves v ls all (before ++ item (assign n x) ∷ []) is (more all before (assign n x) is e) (and_parts (plain_item (assign n x)) (list_all plain_item is) plain).1 known.1 p.1)
 moves v ls all before (clocked n k x ∷ is) e plain known p =
     let plains = and_parts (plain_item (clocked n k x)) (list_all plain_item is) plain in
     let mine = and_parts (is_name n && plain_const k) (plain_expr limit x) plains.0 in
-    let const = ltb-true k.value (2 ^ k.width) (and_parts (nat_lt 0 k.width && nat_le k.width 64) (nat_lt k.value (2 ^ k.width)) (and_parts (is_name n) (plain_const k) mine.0).1).1 in
-    let parts = and_parts (is_kind is_register before n) (knows before x) (known-here ls all before (item (clocked n k x)) (map item is) known) in
-    let fits = and_parts (agrees (widths before) x) ((width_of (widths before) x == (widths before).net n) && (k.width == (widths before).net n)) (not-false (line_fits ls (widths before) (item (clocked n k x))) p.0) in
-    let wide = and_parts (width_of (widths before) x == (widths before).net n) (k.width == (widths before).net n) fits.1 in
+    let const =
+    ltb-true k.value (2 ^ k.width) (and_parts (nat_lt 0 k.width && nat_le k.width 64) (nat_lt k.value (2 ^ k.width)) (and_parts (is_name n) (plain_const k) mine.0).1).1 in
+    let parts =
+    and_parts (is_kind is_register before n) (knows before x) (known-here ls all before (item (clocked n k x)) (map item is) known) in
+    let fits =
+    and_parts (agrees (widths before) x) ((width_of (widths before) x == (widths before).net n) && (k.width == (widths before).net n)) (not-false (line_fits ls (widths before) (item (clocked n k x))) p.0) in
+    let wide =
+    and_parts (width_of (widths before) x == (widths before).net n) (k.width == (widths before).net n) fits.1 in
     let same = known-width all before (map item (clocked n k x ∷ is)) x e parts.1 in
     let what = kind-of is_register before n parts.0 in
     let target = net-width all before (map item (clocked n k x ∷ is)) n e (ap (kind_passes is_net) what.1 ∙ register-net what.0.kind what.2) in (
@@ -203,12 +249,16 @@ moves v ls all before (clocked n k x ∷ is) e plain known p =
 moves v ls all before (store c n i x ∷ is) e plain known p =
     let plains = and_parts (plain_item (store c n i x)) (list_all plain_item is) plain in
     let mine = and_parts ((plain_expr limit c && is_name n) && plain_expr limit i) (plain_expr limit x) plains.0 in
-    let parts = and_parts (is_kind is_memory before n) (knows before c && (knows before i && knows before x)) (known-here ls all before (item (store c n i x)) (map item is) known) in
-    let known3 = and_parts (knows before i) (knows before x) (and_parts (knows before c) (knows before i && knows before x) parts.1).1 in
+    let parts =
+    and_parts (is_kind is_memory before n) (knows before c && (knows before i && knows before x)) (known-here ls all before (item (store c n i x)) (map item is) known) in
+    let known3 =
+    and_parts (knows before i) (knows before x) (and_parts (knows before c) (knows before i && knows before x) parts.1).1 in
     let f1 = and_parts (agrees (widths before) c) ((width_of (widths before) c == 1) && (agrees (widths before) i && (agrees (widths before) x && (width_of (widths before) x == (widths before).word n))))
     (not-false (line_fits ls (widths before) (item (store c n i x))) p.0) in
-    let f2 = and_parts (width_of (widths before) c == 1) (agrees (widths before) i && (agrees (widths before) x && (width_of (widths before) x == (widths before).word n))) f1.1 in
-    let f3 = and_parts (agrees (widths before) i) (agrees (widths before) x && (width_of (widths before) x == (widths before).word n)) f2.1 in
+    let f2 =
+    and_parts (width_of (widths before) c == 1) (agrees (widths before) i && (agrees (widths before) x && (width_of (widths before) x == (widths before).word n))) f1.1 in
+    let f3 =
+    and_parts (agrees (widths before) i) (agrees (widths before) x && (width_of (widths before) x == (widths before).word n)) f2.1 in
     let f4 = and_parts (agrees (widths before) x) (width_of (widths before) x == (widths before).word n) f3.1 in
     let same = known-width all before (map item (store c n i x ∷ is)) x e known3.1 in
     let target = word-width all before (map item (store c n i x ∷ is)) n e parts.0 in (
@@ -245,24 +295,33 @@ moving-leaf l plain s = record {
     known : Passes name_unknown (sites_behind ls all (front l) (map item l.items))
     known = passes-behind name_unknown ls all [] (front l) (map item l.items) m.known
 
-    no-driver : (n : Name) (x : Declared) → lookup all n ≡ Some x → wants_driver x.kind ≡ true → drivers ls (map item l.items) n ≡ 0 → ⊥
+    no-driver : (n : Name) (x : Declared) → lookup all n ≡ Some x → wants_driver x.kind ≡ true
+        → drivers ls (map item l.items) n ≡ 0 → ⊥
     no-driver n x is wants none =
         let one : drivers ls all n ≡ 1 = driven-once ls all n x m.driver is wants in
-        let parts : drivers ls all n ≡ drivers ls (front l) n + drivers ls (map item l.items) n = drivers-append ls (front l) (map item l.items) n in
+        let parts : drivers ls all n ≡ drivers ls (front l) n + drivers ls (map item l.items) n =
+        drivers-append ls (front l) (map item l.items) n in
         let first : drivers ls (front l) n ≡ 0 = front-drives-none ls l n in
         omega arith
 
-    clocks : (n : Name) → is_kind is_register all n ≡ true → (b : Bool) → is_clocked l.items n ≡ b → is_clocked l.items n ≡ true
+    clocks : (n : Name) → is_kind is_register all n ≡ true → (b : Bool) → is_clocked l.items n ≡ b
+        → is_clocked l.items n ≡ true
     clocks n k true e = e
-    clocks n k false e = let what = kind-of is_register all n k in absurd (no-driver n what.0 what.1 (register-wants ls all what.0.kind what.2) (none-clocks ls all (front l) l.items n refl k known e))
+    clocks n k false e =
+        let what = kind-of is_register all n k in
+        absurd (no-driver n what.0 what.1 (register-wants ls all what.0.kind what.2) (none-clocks ls all (front l) l.items n refl k known e))
 
-    stores : (n : Name) → is_kind is_memory all n ≡ true → (b : Bool) → is_stored l.items n ≡ b → is_stored l.items n ≡ true
+    stores : (n : Name) → is_kind is_memory all n ≡ true → (b : Bool) → is_stored l.items n ≡ b
+        → is_stored l.items n ≡ true
     stores n k true e = e
-    stores n k false e = let what = kind-of is_memory all n k in absurd (no-driver n what.0 what.1 (memory-wants ls all what.0.kind what.2) (none-stores ls all (front l) l.items n refl k known e))
+    stores n k false e =
+        let what = kind-of is_memory all n k in
+        absurd (no-driver n what.0 what.1 (memory-wants ls all what.0.kind what.2) (none-stores ls all (front l) l.items n refl k known e))
 
 -- ---- reset constants fit
 
-pub reset-small : (w : Widths) (v : Values) (is : List Item) (n : Name) → AllByRecursion (Moves w v) is → reset_net is n < 2 ^ w.net n
+pub reset-small : (w : Widths) (v : Values) (is : List Item) (n : Name) → AllByRecursion (Moves w v) is
+    → reset_net is n < 2 ^ w.net n
 reset-small w v [] n a = pow_pos (w.net n)
 reset-small w v (wire h m ∷ is) n a = reset-small w v is n a.1
 reset-small w v (reg h m ∷ is) n a = reset-small w v is n a.1
@@ -276,14 +335,16 @@ reset-small w v (clocked m k e ∷ is) n a = go (reset-small w v is n a.1) (byte
     go later false other = rw other later
 
 -- what is stepped to is kept where registers and words are
-pub stepped-same : (w : Widths) (v a b : Values) (is : List Item) → AllByRecursion (Stepped w v a) is → ((n : Name) → is_clocked is n ≡ true → b.net n ≡ a.net n) → ((n : Name) (j : ℕ) → b.word n j ≡ a.word n j)
+pub stepped-same : (w : Widths) (v a b : Values) (is : List Item) → AllByRecursion (Stepped w v a) is
+    → ((n : Name) → is_clocked is n ≡ true → b.net n ≡ a.net n) → ((n : Name) (j : ℕ) → b.word n j ≡ a.word n j)
     → AllByRecursion (Stepped w v b) is
 stepped-same w v a b [] f nets words = tt
 stepped-same w v a b (wire h m ∷ is) f nets words = (tt, stepped-same w v a b is f.1 nets words)
 stepped-same w v a b (reg h m ∷ is) f nets words = (tt, stepped-same w v a b is f.1 nets words)
 stepped-same w v a b (mem h m last ∷ is) f nets words = (tt, stepped-same w v a b is f.1 nets words)
 stepped-same w v a b (assign m e ∷ is) f nets words = (tt, stepped-same w v a b is f.1 nets words)
-stepped-same w v a b (store c m i e ∷ is) f nets words = ((λ j. words m j ∙ f.0 j), stepped-same w v a b is f.1 nets words)
+stepped-same w v a b (store c m i e ∷ is) f nets words =
+    ((λ j. words m j ∙ f.0 j), stepped-same w v a b is f.1 nets words)
 stepped-same w v a b (clocked m k e ∷ is) f nets words = (nets m (rw (itself m) refl) ∙ f.0, stepped-same w v a b is f.1 (λ n c. nets n (later n (bytes_eq n m) c)) words)
   where
     later : (n : Name) (t : Bool) → is_clocked is n ≡ true → (t || is_clocked is n) ≡ true

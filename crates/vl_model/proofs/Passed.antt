@@ -17,7 +17,8 @@ pub all-back : {A : Type 0} (P : A → Type 0) (xs ys : List A) → AllByRecursi
 all-back P [] ys a = a
 all-back P (x ∷ xs) ys a = all-back P xs ys a.1
 
-pub all-map : {A : Type 0} (P Q : A → Type 0) → ((x : A) → P x → Q x) → (xs : List A) → AllByRecursion P xs → AllByRecursion Q xs
+pub all-map : {A : Type 0} (P Q : A → Type 0) → ((x : A) → P x → Q x) → (xs : List A) → AllByRecursion P xs
+    → AllByRecursion Q xs
 all-map P Q f [] a = tt
 all-map P Q f (x ∷ xs) a = (f x a.0, all-map P Q f xs a.1)
 
@@ -44,7 +45,8 @@ none-passes t i (p ∷ ps) e = go (none-passes t (i + 1) ps) (t p) refl
     go rest true is = absurd (none-some i (sym (subst (λ c. cond c (Some i) (position_from t (i + 1) ps) ≡ None) is e)))
     go rest false is = (is, rest (subst (λ c. cond c (Some i) (position_from t (i + 1) ps) ≡ None) is e))
 
-pub no-fault : (rs : List Rule) (ps : List Site) → first_fault_of rs ps ≡ None → AllByRecursion (λ (r : Rule). Passes r.1 ps) rs
+pub no-fault : (rs : List Rule) (ps : List Site) → first_fault_of rs ps ≡ None
+    → AllByRecursion (λ (r : Rule). Passes r.1 ps) rs
 no-fault [] ps e = tt
 no-fault (r ∷ rs) ps e =
     let both = or-none (option_map r.0 (position_from r.1 0 ps)) (first_fault_of rs ps) e in
@@ -55,10 +57,12 @@ unfolding first_fault
 pass-all d e = no-fault rules (sites d) e
 
 pub pass-front : (xs ys : List Site) → PassAll (xs ++ ys) → PassAll xs
-pass-front xs ys a = all-map (λ (r : Rule). Passes r.1 (xs ++ ys)) (λ (r : Rule). Passes r.1 xs) (λ r p. all-front (λ p. r.1 p ≡ false) xs ys p) rules a
+pass-front xs ys a =
+    all-map (λ (r : Rule). Passes r.1 (xs ++ ys)) (λ (r : Rule). Passes r.1 xs) (λ r p. all-front (λ p. r.1 p ≡ false) xs ys p) rules a
 
 pub pass-back : (xs ys : List Site) → PassAll (xs ++ ys) → PassAll ys
-pass-back xs ys a = all-map (λ (r : Rule). Passes r.1 (xs ++ ys)) (λ (r : Rule). Passes r.1 ys) (λ r p. all-back (λ p. r.1 p ≡ false) xs ys p) rules a
+pass-back xs ys a =
+    all-map (λ (r : Rule). Passes r.1 (xs ++ ys)) (λ (r : Rule). Passes r.1 ys) (λ r p. all-back (λ p. r.1 p ≡ false) xs ys p) rules a
 
 -- the lines of one module keep the rules, where these leaves stand before it
 pub record SoundModule (leaves : List Leaf) (lines : List Line) : Type 0 where
@@ -86,7 +90,8 @@ sound-module leaves lines a = record {
 abbrev pub SoundLeaf : Leaf → Type 0
 SoundLeaf l = (before : List Leaf) × SoundModule before (leaf_lines l)
 
-pub named-sound : (before ls : List Leaf) (n : Name) (l : Leaf) → leaf_named ls n ≡ Some l → PassAll (leaf_sites before ls) → SoundLeaf l
+pub named-sound : (before ls : List Leaf) (n : Name) (l : Leaf) → leaf_named ls n ≡ Some l
+    → PassAll (leaf_sites before ls) → SoundLeaf l
 named-sound before [] n l e a = absurd (none-some l e)
 named-sound before (x ∷ ls) n l e a = go (λ f. named-sound (before ++ x ∷ []) ls n l f (pass-back (module_sites before (leaf_lines x)) (leaf_sites (before ++ x ∷ []) ls) a)) (bytes_eq n x.name) refl
   where
@@ -97,18 +102,23 @@ named-sound before (x ∷ ls) n l e a = go (λ f. named-sound (before ++ x ∷ [
     go rest false other = rest (subst (λ c. cond c (Some x) (leaf_named ls n) ≡ Some l) other e)
 
 -- each leaf of a sound design, and its top
-pub leaf-sound : (d : Design) → first_fault d ≡ None → (n : Name) (l : Leaf) → leaf_named d.leaves n ≡ Some l → SoundLeaf l
-leaf-sound d e n l is = named-sound [] d.leaves n l is (pass-front (leaf_sites [] d.leaves) (module_sites d.leaves (top_lines d.top)) (pass-all d e))
+pub leaf-sound : (d : Design) → first_fault d ≡ None → (n : Name) (l : Leaf) → leaf_named d.leaves n ≡ Some l
+    → SoundLeaf l
+leaf-sound d e n l is =
+    named-sound [] d.leaves n l is (pass-front (leaf_sites [] d.leaves) (module_sites d.leaves (top_lines d.top)) (pass-all d e))
 
 pub top-sound : (d : Design) → first_fault d ≡ None → SoundModule d.leaves (top_lines d.top)
-top-sound d e = sound-module d.leaves (top_lines d.top) (pass-back (leaf_sites [] d.leaves) (module_sites d.leaves (top_lines d.top)) (pass-all d e))
+top-sound d e =
+    sound-module d.leaves (top_lines d.top) (pass-back (leaf_sites [] d.leaves) (module_sites d.leaves (top_lines d.top)) (pass-all d e))
 
 -- the sites behind some lines
-pub passes-behind : (t : Site → Bool) (ls : List Leaf) (all before a b : List Line) → Passes t (sites_behind ls all before (a ++ b)) → Passes t (sites_behind ls all (before ++ a) b)
+pub passes-behind : (t : Site → Bool) (ls : List Leaf) (all before a b : List Line)
+    → Passes t (sites_behind ls all before (a ++ b)) → Passes t (sites_behind ls all (before ++ a) b)
 passes-behind t ls all before [] b p = subst (λ x. Passes t (sites_behind ls all x b)) (sym (append-nil before)) p
 passes-behind t ls all before (x ∷ a) b p =
     subst (λ y. Passes t (sites_behind ls all y b)) (append_assoc before (x ∷ []) a) (passes-behind t ls all (before ++ x ∷ []) a b p.1)
 
-pub passes-before : (t : Site → Bool) (ls : List Leaf) (all before a b : List Line) → Passes t (sites_behind ls all before (a ++ b)) → Passes t (sites_behind ls all before a)
+pub passes-before : (t : Site → Bool) (ls : List Leaf) (all before a b : List Line)
+    → Passes t (sites_behind ls all before (a ++ b)) → Passes t (sites_behind ls all before a)
 passes-before t ls all before [] b p = tt
 passes-before t ls all before (x ∷ a) b p = (p.0, passes-before t ls all (before ++ x ∷ []) a b p.1)

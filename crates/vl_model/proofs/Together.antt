@@ -20,20 +20,24 @@ passes-none : (t : Site → Bool) (i : ℕ) (ps : List Site) → Passes t ps →
 passes-none t i [] p = refl
 passes-none t i (x ∷ ps) p = rw p.0 (passes-none t (i + 1) ps p.1)
 
-pub all-none : (rs : List Rule) (ps : List Site) → AllByRecursion (λ (r : Rule). Passes r.1 ps) rs → first_fault_of rs ps ≡ None
+pub all-none : (rs : List Rule) (ps : List Site) → AllByRecursion (λ (r : Rule). Passes r.1 ps) rs
+    → first_fault_of rs ps ≡ None
 all-none [] ps a = refl
 all-none (r ∷ rs) ps a = rw (passes-none r.1 0 ps a.0) (all-none rs ps a.1)
 
-pub all-join : {A : Type 0} (P : A → Type 0) (xs ys : List A) → AllByRecursion P xs → AllByRecursion P ys → AllByRecursion P (xs ++ ys)
+pub all-join : {A : Type 0} (P : A → Type 0) (xs ys : List A) → AllByRecursion P xs → AllByRecursion P ys
+    → AllByRecursion P (xs ++ ys)
 all-join P [] ys a b = b
 all-join P (x ∷ xs) ys a b = (a.0, all-join P xs ys a.1 b)
 
-all-zip : {A : Type 0} (P Q R : A → Type 0) → ((x : A) → P x → Q x → R x) → (xs : List A) → AllByRecursion P xs → AllByRecursion Q xs → AllByRecursion R xs
+all-zip : {A : Type 0} (P Q R : A → Type 0) → ((x : A) → P x → Q x → R x) → (xs : List A) → AllByRecursion P xs
+    → AllByRecursion Q xs → AllByRecursion R xs
 all-zip P Q R f [] a b = tt
 all-zip P Q R f (x ∷ xs) a b = (f x a.0 b.0, all-zip P Q R f xs a.1 b.1)
 
 pass-join : (xs ys : List Site) → PassAll xs → PassAll ys → PassAll (xs ++ ys)
-pass-join xs ys a b = all-zip (λ (r : Rule). Passes r.1 xs) (λ (r : Rule). Passes r.1 ys) (λ (r : Rule). Passes r.1 (xs ++ ys)) (λ r p q. all-join (λ x. r.1 x ≡ false) xs ys p q) rules a b
+pass-join xs ys a b =
+    all-zip (λ (r : Rule). Passes r.1 xs) (λ (r : Rule). Passes r.1 ys) (λ (r : Rule). Passes r.1 (xs ++ ys)) (λ r p q. all-join (λ x. r.1 x ≡ false) xs ys p q) rules a b
 
 -- ---- a leaf's lines do not look at other leaves
 
@@ -70,30 +74,37 @@ own-drivers bs [] n o = refl
 own-drivers bs (x ∷ xs) n o = rw (own-drives bs n x o.0, own-drivers bs xs n o.1) refl
 
 leaf-drivers : (bs : List Leaf) (l : Leaf) (n : Name) → drivers bs (leaf_lines l) n ≡ drivers [] (leaf_lines l) n
-leaf-drivers bs l n = ap (λ k. 0 + k) (own-drivers bs (map port l.ports ++ map item l.items) n (all-join IsOwn (map port l.ports) (map item l.items) (own-ports l.ports) (own-items l.items)))
+leaf-drivers bs l n =
+    ap (λ k. 0 + k) (own-drivers bs (map port l.ports ++ map item l.items) n (all-join IsOwn (map port l.ports) (map item l.items) (own-ports l.ports) (own-items l.items)))
 
-lacks-same : (bs : List Leaf) (l : Leaf) (o : Option Declared) → lacks_driver bs (leaf_lines l) o ≡ lacks_driver [] (leaf_lines l) o
+lacks-same : (bs : List Leaf) (l : Leaf) (o : Option Declared)
+    → lacks_driver bs (leaf_lines l) o ≡ lacks_driver [] (leaf_lines l) o
 lacks-same bs l None = refl
 lacks-same bs l (Some x) = ap (λ k. wants_driver x.kind && not (k == 1)) (leaf-drivers bs l x.name)
 
 at : List Leaf → List Line → List Line → Line → Site
 at bs all before x = record { leaves = bs; lines = all; before = before; line = x }
 
-passes-own : (t : Site → Bool) (bs : List Leaf) (all : List Line) → ((before : List Line) (x : Line) → IsOwn x → t (at bs all before x) ≡ t (at [] all before x))
-    → (before xs : List Line) → AllByRecursion IsOwn xs → Passes t (sites_behind [] all before xs) → Passes t (sites_behind bs all before xs)
+passes-own : (t : Site → Bool) (bs : List Leaf) (all : List Line)
+    → ((before : List Line) (x : Line) → IsOwn x → t (at bs all before x) ≡ t (at [] all before x))
+    → (before xs : List Line) → AllByRecursion IsOwn xs → Passes t (sites_behind [] all before xs)
+    → Passes t (sites_behind bs all before xs)
 unfolding at
 passes-own t bs all same before [] o p = tt
-passes-own t bs all same before (x ∷ xs) o p = (same before x o.0 ∙ p.0, passes-own t bs all same (before ++ x ∷ []) xs o.1 p.1)
+passes-own t bs all same before (x ∷ xs) o p =
+    (same before x o.0 ∙ p.0, passes-own t bs all same (before ++ x ∷ []) xs o.1 p.1)
 
 module _ (bs : List Leaf) (l : Leaf) where
-  twice-same : (before : List Line) (x : Line) → IsOwn x → name_twice (at bs (leaf_lines l) before x) ≡ name_twice (at [] (leaf_lines l) before x)
+  twice-same : (before : List Line) (x : Line) → IsOwn x
+      → name_twice (at bs (leaf_lines l) before x) ≡ name_twice (at [] (leaf_lines l) before x)
   unfolding at IsOwn name_twice
   twice-same before (heading n) o = absurd o
   twice-same before (port p) o = refl
   twice-same before (item x) o = refl
   twice-same before (joint x) o = absurd o
 
-  known-same : (before : List Line) (x : Line) → IsOwn x → name_unknown (at bs (leaf_lines l) before x) ≡ name_unknown (at [] (leaf_lines l) before x)
+  known-same : (before : List Line) (x : Line) → IsOwn x
+      → name_unknown (at bs (leaf_lines l) before x) ≡ name_unknown (at [] (leaf_lines l) before x)
   unfolding at IsOwn name_unknown
   known-same before (heading n) o = absurd o
   known-same before (port p) o = refl
@@ -105,7 +116,8 @@ module _ (bs : List Leaf) (l : Leaf) where
   known-same before (item (store c m i e)) o = refl
   known-same before (joint x) o = absurd o
 
-  width-same' : (before : List Line) (x : Line) → IsOwn x → wrong_width (at bs (leaf_lines l) before x) ≡ wrong_width (at [] (leaf_lines l) before x)
+  width-same' : (before : List Line) (x : Line) → IsOwn x
+      → wrong_width (at bs (leaf_lines l) before x) ≡ wrong_width (at [] (leaf_lines l) before x)
   unfolding at IsOwn wrong_width
   width-same' before (heading n) o = absurd o
   width-same' before (port p) o = refl
@@ -117,23 +129,28 @@ module _ (bs : List Leaf) (l : Leaf) where
   width-same' before (item (store c m i e)) o = refl
   width-same' before (joint x) o = absurd o
 
-  order-same : (before : List Line) (x : Line) → IsOwn x → wrong_order (at bs (leaf_lines l) before x) ≡ wrong_order (at [] (leaf_lines l) before x)
+  order-same : (before : List Line) (x : Line) → IsOwn x
+      → wrong_order (at bs (leaf_lines l) before x) ≡ wrong_order (at [] (leaf_lines l) before x)
   unfolding at wrong_order
   order-same before x o = refl
 
-  driver-same : (before : List Line) (x : Line) → IsOwn x → wrong_driver (at bs (leaf_lines l) before x) ≡ wrong_driver (at [] (leaf_lines l) before x)
+  driver-same : (before : List Line) (x : Line) → IsOwn x
+      → wrong_driver (at bs (leaf_lines l) before x) ≡ wrong_driver (at [] (leaf_lines l) before x)
   unfolding at wrong_driver
   driver-same before x o = lacks-same bs l (declared x)
 
-  through-same : (before : List Line) (x : Line) → IsOwn x → goes_through (at bs (leaf_lines l) before x) ≡ goes_through (at [] (leaf_lines l) before x)
+  through-same : (before : List Line) (x : Line) → IsOwn x
+      → goes_through (at bs (leaf_lines l) before x) ≡ goes_through (at [] (leaf_lines l) before x)
   unfolding at goes_through
   through-same before x o = refl
 
-  size-same : (before : List Line) (x : Line) → IsOwn x → wrong_size (at bs (leaf_lines l) before x) ≡ wrong_size (at [] (leaf_lines l) before x)
+  size-same : (before : List Line) (x : Line) → IsOwn x
+      → wrong_size (at bs (leaf_lines l) before x) ≡ wrong_size (at [] (leaf_lines l) before x)
   unfolding at wrong_size
   size-same before x o = refl
 
-  joins-same : (before : List Line) (x : Line) → IsOwn x → wrong_joins (at bs (leaf_lines l) before x) ≡ wrong_joins (at [] (leaf_lines l) before x)
+  joins-same : (before : List Line) (x : Line) → IsOwn x
+      → wrong_joins (at bs (leaf_lines l) before x) ≡ wrong_joins (at [] (leaf_lines l) before x)
   unfolding at IsOwn wrong_joins
   joins-same before (heading n) o = absurd o
   joins-same before (port p) o = refl
@@ -143,11 +160,15 @@ module _ (bs : List Leaf) (l : Leaf) where
   own : AllByRecursion IsOwn (map port l.ports ++ map item l.items)
   own = all-join IsOwn (map port l.ports) (map item l.items) (own-ports l.ports) (own-items l.items)
 
-  behind : (t : Site → Bool) → ((before : List Line) (x : Line) → IsOwn x → t (at bs (leaf_lines l) before x) ≡ t (at [] (leaf_lines l) before x))
-      → Passes t (sites_behind [] (leaf_lines l) (heading l.name ∷ []) (map port l.ports ++ map item l.items)) → Passes t (sites_behind bs (leaf_lines l) (heading l.name ∷ []) (map port l.ports ++ map item l.items))
-  behind t same p = passes-own t bs (leaf_lines l) same (heading l.name ∷ []) (map port l.ports ++ map item l.items) own p
+  behind : (t : Site → Bool)
+      → ((before : List Line) (x : Line) → IsOwn x → t (at bs (leaf_lines l) before x) ≡ t (at [] (leaf_lines l) before x))
+      → Passes t (sites_behind [] (leaf_lines l) (heading l.name ∷ []) (map port l.ports ++ map item l.items))
+      → Passes t (sites_behind bs (leaf_lines l) (heading l.name ∷ []) (map port l.ports ++ map item l.items))
+  behind t same p =
+      passes-own t bs (leaf_lines l) same (heading l.name ∷ []) (map port l.ports ++ map item l.items) own p
 
-  leaf-passes : leaf_named bs l.name ≡ None → PassAll (module_sites [] (leaf_lines l)) → PassAll (module_sites bs (leaf_lines l))
+  leaf-passes : leaf_named bs l.name ≡ None → PassAll (module_sites [] (leaf_lines l))
+      → PassAll (module_sites bs (leaf_lines l))
   unfolding name_twice name_unknown wrong_width wrong_order wrong_driver goes_through wrong_size wrong_joins
   leaf-passes free a = ((
     (ap is_some free, behind name_twice twice-same a.0.1),
@@ -177,15 +198,18 @@ module _ (bs : List Leaf) (l : Leaf) where
 
 -- ---- all leaves
 
-not-added : (before : List Leaf) (l : Leaf) (n : Name) → leaf_named before n ≡ None → n ≢ l.name → leaf_named (before ++ l ∷ []) n ≡ None
+not-added : (before : List Leaf) (l : Leaf) (n : Name) → leaf_named before n ≡ None → n ≢ l.name
+    → leaf_named (before ++ l ∷ []) n ≡ None
 not-added [] l n free other = rw (differs n l.name other) refl
 not-added (x ∷ before) l n free other = go (not-added before l n) (bytes_eq n x.name) refl
   where
-    go : (leaf_named before n ≡ None → n ≢ l.name → leaf_named (before ++ l ∷ []) n ≡ None) → (b : Bool) → bytes_eq n x.name ≡ b → leaf_named ((x ∷ before) ++ l ∷ []) n ≡ None
+    go : (leaf_named before n ≡ None → n ≢ l.name → leaf_named (before ++ l ∷ []) n ≡ None) → (b : Bool)
+        → bytes_eq n x.name ≡ b → leaf_named ((x ∷ before) ++ l ∷ []) n ≡ None
     go later true is = absurd (none-some x (sym (rw is at free)))
     go later false is = rw is (later (rw is at free) other)
 
-leaves-pass : (before ls : List Leaf) → AllByRecursion IsSoundLeaf ls → NamesApart ls → AllByRecursion (λ (k : Leaf). leaf_named before k.name ≡ None) ls → PassAll (leaf_sites before ls)
+leaves-pass : (before ls : List Leaf) → AllByRecursion IsSoundLeaf ls → NamesApart ls
+    → AllByRecursion (λ (k : Leaf). leaf_named before k.name ≡ None) ls → PassAll (leaf_sites before ls)
 leaves-pass before [] s apart free = (tt, (tt, (tt, (tt, (tt, (tt, (tt, (tt, tt))))))))
 leaves-pass before (l ∷ ls) s apart free =
     pass-join (module_sites before (leaf_lines l)) (leaf_sites (before ++ l ∷ []) ls) (leaf-passes before l free.0 (no-fault rules (module_sites [] (leaf_lines l)) s.0.rules))

@@ -44,7 +44,8 @@ byte_here bs n is lt = record {
   here = ap (λ k. is_text_byte (get_or bs k 0)) is ∙ prefix_len_stops is_text_byte bs 0 (omega arith);
 }
 
-prefix_stops : (p : ℕ → Bool) (front : List ℕ) (b : ℕ) (rest : List ℕ) → list_all p front ≡ true → p b ≡ false → prefix_len p (front ++ (b ∷ rest)) ≡ length front
+prefix_stops : (p : ℕ → Bool) (front : List ℕ) (b : ℕ) (rest : List ℕ) → list_all p front ≡ true → p b ≡ false
+    → prefix_len p (front ++ (b ∷ rest)) ≡ length front
 prefix_stops p [] b rest all here = rw here refl
 prefix_stops p (x ∷ front) b rest all here =
     let k = and_true (p x) (list_all p front) all in
@@ -53,8 +54,10 @@ prefix_stops p (x ∷ front) b rest all here =
 
 pub byte_place : (bs : List ℕ) (n : ℕ) → ByteFault bs n → (prefix_len is_text_byte bs ≡ n) × (n < length bs)
 byte_place bs n f =
-    let e : prefix_len is_text_byte bs ≡ n = ap (prefix_len is_text_byte) f.parts ∙ prefix_stops is_text_byte f.front f.byte f.rest f.before f.here ∙ sym f.at in
-    let l : length bs ≡ length f.front + suc (length f.rest) = ap length f.parts ∙ length-append f.front (f.byte ∷ f.rest) in
+    let e : prefix_len is_text_byte bs ≡ n =
+    ap (prefix_len is_text_byte) f.parts ∙ prefix_stops is_text_byte f.front f.byte f.rest f.before f.here ∙ sym f.at in
+    let l : length bs ≡ length f.front + suc (length f.rest) =
+    ap length f.parts ∙ length-append f.front (f.byte ∷ f.rest) in
     (e, omega (arith, l, f.at))
 
 -- a text without such a byte
@@ -62,21 +65,28 @@ pub no_byte : (bs : List ℕ) (n : ℕ) → length bs ≤ prefix_len is_text_byt
 no_byte bs n clean f = let k = byte_place bs n f in absurd (omega (arith, k.0, k.1))
 
 -- a text with one
-pub some_byte : (bs : List ℕ) (n : ℕ) → n ≡ prefix_len is_text_byte bs → n < length bs → list_all is_text_byte bs ≡ true → ⊥
+pub some_byte : (bs : List ℕ) (n : ℕ) → n ≡ prefix_len is_text_byte bs → n < length bs → list_all is_text_byte bs ≡ true
+    → ⊥
 some_byte bs n is lt all = absurd (omega (arith, all_long is_text_byte bs all))
 
-pub token_here : (bs : List ℕ) (n left : ℕ) → length bs ≤ prefix_len is_text_byte bs → left ≡ unread bs → 0 < left → left ≤ length bs → n ≡ length bs - left → TokenFault bs n
-token_here bs n left clean is some within at = record { clean = all_pass is_text_byte bs clean; some = omega arith; at = omega arith }
+pub token_here : (bs : List ℕ) (n left : ℕ) → length bs ≤ prefix_len is_text_byte bs → left ≡ unread bs → 0 < left
+    → left ≤ length bs → n ≡ length bs - left → TokenFault bs n
+token_here bs n left clean is some within at =
+    record { clean = all_pass is_text_byte bs clean; some = omega arith; at = omega arith }
 
 -- ---- the grammar
 
-pub spelled_here : (bs : List ℕ) (d : Design) → length bs ≤ prefix_len is_text_byte bs → unread bs ≡ 0 → design_at (tokens_of bs) ≡ Ok d → Spells bs d
-spelled_here bs d clean whole e = let f = design_found (tokens_of bs) d e in record { clean = all_pass is_text_byte bs clean; whole = whole; tokens = f.1; fits = f.0 }
+pub spelled_here : (bs : List ℕ) (d : Design) → length bs ≤ prefix_len is_text_byte bs → unread bs ≡ 0
+    → design_at (tokens_of bs) ≡ Ok d → Spells bs d
+spelled_here bs d clean whole e =
+    let f = design_found (tokens_of bs) d e in
+    record { clean = all_pass is_text_byte bs clean; whole = whole; tokens = f.1; fits = f.0 }
 
 pub spelled_read : (bs : List ℕ) (d : Design) → Spells bs d → design_at (tokens_of bs) ≡ Ok d
 spelled_read bs d s = design_again d (tokens_of bs) s.fits (plain_spelled bs d s).tokens s.tokens
 
-pub grammar_here : (bs : List ℕ) (n : ℕ) → length bs ≤ prefix_len is_text_byte bs → unread bs ≡ 0 → design_at (tokens_of bs) ≡ Err n → GrammarFault bs (length bs - n)
+pub grammar_here : (bs : List ℕ) (n : ℕ) → length bs ≤ prefix_len is_text_byte bs → unread bs ≡ 0
+    → design_at (tokens_of bs) ≡ Err n → GrammarFault bs (length bs - n)
 grammar_here bs n clean whole e =
     let within = fault_within bs n e in
     record { clean = all_pass is_text_byte bs clean; whole = whole; at = fault_place bs n (length bs - n) e (omega arith) }
@@ -103,9 +113,11 @@ ways (v ∷ x) (w ∷ y) t u a b e =
     subst (λ z. Ways (v ∷ x) (z ∷ y) t u) h (longer v x y t u (ways x y t u a b k))
 
 -- what begins so begins with a part of it
-begins_with : (before more : List Placed) (t : Placed) (all : List Placed) → all ≡ before ++ (t ∷ more) → Begins (text_of all) → Begins (text_of before ++ (t.token ∷ []))
+begins_with : (before more : List Placed) (t : Placed) (all : List Placed) → all ≡ before ++ (t ∷ more)
+    → Begins (text_of all) → Begins (text_of before ++ (t.token ∷ []))
 begins_with before more t all is b =
-    let text : text_of all ≡ (text_of before ++ (t.token ∷ [])) ++ text_of more = ap text_of is ∙ text_append before (t ∷ more) ∙ sym (append_assoc (text_of before) (t.token ∷ []) (text_of more)) in
+    let text : text_of all ≡ (text_of before ++ (t.token ∷ [])) ++ text_of more =
+    ap text_of is ∙ text_append before (t ∷ more) ∙ sym (append_assoc (text_of before) (t.token ∷ []) (text_of more)) in
     record {
       design = b.design;
       rest = text_of more ++ b.rest;
@@ -122,8 +134,10 @@ one_place bs a b (inl (x, t, p, is, at, begins, dead)) (inl (y, u, q, is', at', 
         | inr c ↦ absurd (dead' (begins_with y c.more u x c.is begins))
       ]
     ]
-one_place bs a b (inl (x, t, p, is, at, begins, dead)) (inr (at', begins', none)) = absurd (dead (begins_with x p t (tokens_of bs) is begins'))
-one_place bs a b (inr (at, begins, none)) (inl (y, u, q, is', at', begins', dead')) = absurd (dead' (begins_with y q u (tokens_of bs) is' begins))
+one_place bs a b (inl (x, t, p, is, at, begins, dead)) (inr (at', begins', none)) =
+    absurd (dead (begins_with x p t (tokens_of bs) is begins'))
+one_place bs a b (inr (at, begins, none)) (inl (y, u, q, is', at', begins', dead')) =
+    absurd (dead' (begins_with y q u (tokens_of bs) is' begins))
 one_place bs a b (inr (at, begins, none)) (inr (at', begins', none')) = at ∙ sym at'
 
 pub not_spelled : (bs : List ℕ) (n : ℕ) (d : Design) → GrammarFault bs n → Spells bs d → ⊥

@@ -33,6 +33,7 @@ abbrev whole_cat : Expr × (List Expr × Unit {0}) → Expr
 whole_cat x = cat (parts x.0 (parts_from x.1.0))
 
 -- a concatenation of its first part and the others
-pub cat_done : (a : Expr) (o : Result ((List Expr × Unit {0}) × List Placed) ℕ) → made_of whole_cat (paired a o) ≡ made_of (λ y. cat (parts_of y.0)) (more_of (a ∷ []) o)
+pub cat_done : (a : Expr) (o : Result ((List Expr × Unit {0}) × List Placed) ℕ)
+    → made_of whole_cat (paired a o) ≡ made_of (λ y. cat (parts_of y.0)) (more_of (a ∷ []) o)
 cat_done a (Ok y) = ap (λ es. Ok (cat (parts a es), y.1)) (parts_same y.0.0)
 cat_done a (Err n) = refl

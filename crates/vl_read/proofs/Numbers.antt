@@ -34,23 +34,32 @@ fits_is : (b : Bool) (n m : ℕ) → cond b (Some n) None ≡ Some m → (b ≡ 
 fits_is true n m e = (refl, cc)
 fits_is false n m e = absurd cc
 
-pub value_ends : (base number i : ℕ) (ds : List ℕ) → number ≡ digits_value base (take i ds) → number < 2 ^ 64 → length ds ≤ i → Some number ≡ fitting (digits_value base ds)
+pub value_ends : (base number i : ℕ) (ds : List ℕ) → number ≡ digits_value base (take i ds) → number < 2 ^ 64
+    → length ds ≤ i → Some number ≡ fitting (digits_value base ds)
 value_ends base number i ds is fits all =
     let k : number ≡ digits_value base ds = is ∙ ap (digits_value base) (take_all i ds all) in
     let t : ltb number (2 ^ 64) ≡ true = lt-ltb number (2 ^ 64) fits in
     rw (← k, t) refl
 
-pub value_stops : (base number i : ℕ) (ds : List ℕ) → 0 < base → i < length ds → number ≡ digits_value base (take i ds) → fitting (number * base + digit_value (get_or ds i 0)) ≡ None → None ≡ fitting (digits_value base ds)
+pub value_stops : (base number i : ℕ) (ds : List ℕ) → 0 < base → i < length ds → number ≡ digits_value base (take i ds)
+    → fitting (number * base + digit_value (get_or ds i 0)) ≡ None → None ≡ fitting (digits_value base ds)
 value_stops base number i ds some lt is e =
-    let f = fits_not (ltb (number * base + digit_value (get_or ds i 0)) (2 ^ 64)) (number * base + digit_value (get_or ds i 0)) e in
+    let f =
+    fits_not (ltb (number * base + digit_value (get_or ds i 0)) (2 ^ 64)) (number * base + digit_value (get_or ds i 0)) e in
     let large : 2 ^ 64 ≤ number * base + digit_value (get_or ds i 0) = ltb-false _ _ f in
-    let grown : digits_value base (take (i + 1) ds) ≡ number * base + digit_value (get_or ds i 0) = rw is (digits_value_more base ds i lt) in
-    let t : ltb (digits_value base ds) (2 ^ 64) ≡ false = le-ltb _ _ (omega (arith, digits_value-take-le base ds (i + 1) some, grown)) in
+    let grown : digits_value base (take (i + 1) ds) ≡ number * base + digit_value (get_or ds i 0) =
+    rw is (digits_value_more base ds i lt) in
+    let t : ltb (digits_value base ds) (2 ^ 64) ≡ false =
+    le-ltb _ _ (omega (arith, digits_value-take-le base ds (i + 1) some, grown)) in
     rw t refl
 
-pub value_on : (base number i m : ℕ) (ds : List ℕ) → i < length ds → number ≡ digits_value base (take i ds) → fitting (number * base + digit_value (get_or ds i 0)) ≡ Some m → (m ≡ digits_value base (take (i + 1) ds)) × (m < 2 ^ 64)
+pub value_on : (base number i m : ℕ) (ds : List ℕ) → i < length ds → number ≡ digits_value base (take i ds)
+    → fitting (number * base + digit_value (get_or ds i 0)) ≡ Some m
+    → (m ≡ digits_value base (take (i + 1) ds)) × (m < 2 ^ 64)
 value_on base number i m ds lt is e =
-    let f = fits_is (ltb (number * base + digit_value (get_or ds i 0)) (2 ^ 64)) (number * base + digit_value (get_or ds i 0)) m e in
-    let grown : digits_value base (take (i + 1) ds) ≡ number * base + digit_value (get_or ds i 0) = rw is (digits_value_more base ds i lt) in
+    let f =
+    fits_is (ltb (number * base + digit_value (get_or ds i 0)) (2 ^ 64)) (number * base + digit_value (get_or ds i 0)) m e in
+    let grown : digits_value base (take (i + 1) ds) ≡ number * base + digit_value (get_or ds i 0) =
+    rw is (digits_value_more base ds i lt) in
     let below = ltb-true (number * base + digit_value (get_or ds i 0)) (2 ^ 64) f.0 in
     (sym f.1 ∙ sym grown, omega (arith, f.1))

@@ -24,17 +24,20 @@ unfolding piece_at
 blank_piece [] h e = absurd (omega arith)
 blank_piece (b ∷ bs) h e = rw e refl
 
-pub comment_piece : (bs : List ℕ) → 0 < length bs → is_blank (get_or bs 0 0) ≡ false → get_or bs 0 0 ≡ 47 → comment_at (drop 1 bs) ≡ piece_at bs
+pub comment_piece : (bs : List ℕ) → 0 < length bs → is_blank (get_or bs 0 0) ≡ false → get_or bs 0 0 ≡ 47
+    → comment_at (drop 1 bs) ≡ piece_at bs
 unfolding piece_at
 comment_piece [] h e f = absurd (omega arith)
 comment_piece (b ∷ bs) h e f = let g : eqb b 47 ≡ true = rw f refl in rw (e, g) refl
 
-pub run_piece : (bs : List ℕ) → 0 < length bs → is_blank (get_or bs 0 0) ≡ false → eqb (get_or bs 0 0) 47 ≡ false → is_run (get_or bs 0 0) ≡ true → run_at (run_of bs) (after_run bs) ≡ piece_at bs
+pub run_piece : (bs : List ℕ) → 0 < length bs → is_blank (get_or bs 0 0) ≡ false → eqb (get_or bs 0 0) 47 ≡ false
+    → is_run (get_or bs 0 0) ≡ true → run_at (run_of bs) (after_run bs) ≡ piece_at bs
 unfolding piece_at
 run_piece [] h e f g = absurd (omega arith)
 run_piece (b ∷ bs) h e f g = rw (e, f, g) refl
 
-pub symbol_piece : (bs : List ℕ) → 0 < length bs → is_blank (get_or bs 0 0) ≡ false → eqb (get_or bs 0 0) 47 ≡ false → is_run (get_or bs 0 0) ≡ false → symbol_at (get_or bs 0 0) (drop 1 bs) ≡ piece_at bs
+pub symbol_piece : (bs : List ℕ) → 0 < length bs → is_blank (get_or bs 0 0) ≡ false → eqb (get_or bs 0 0) 47 ≡ false
+    → is_run (get_or bs 0 0) ≡ false → symbol_at (get_or bs 0 0) (drop 1 bs) ≡ piece_at bs
 unfolding piece_at
 symbol_piece [] h e f g = absurd (omega arith)
 symbol_piece (b ∷ bs) h e f g = rw (e, f, g) refl
@@ -48,7 +51,8 @@ abbrev IsWithin : ℕ → Option tokens.Piece → Type 0
 IsWithin n None = Unit {0}
 IsWithin n (Some p) = (0 < p.len) × (p.len ≤ n)
 
-one_within : (n : ℕ) (b : Bool) (x y : Option tokens.Piece) → (b ≡ true → IsWithin n x) → (b ≡ false → IsWithin n y) → IsWithin n (cond b x y)
+one_within : (n : ℕ) (b : Bool) (x y : Option tokens.Piece) → (b ≡ true → IsWithin n x) → (b ≡ false → IsWithin n y)
+    → IsWithin n (cond b x y)
 one_within n true x y f g = f refl
 one_within n false x y f g = g refl
 
@@ -101,7 +105,8 @@ sized_within n w (b ∷ ds) after h =
 run_within : (n : ℕ) (r after : List ℕ) → 0 < length r → length r + length after ≤ n → IsWithin n (run_at r after)
 run_within n r after some h =
     let short : length r ≤ n = omega arith in
-    let behind : next_is 39 after ≡ true → length r + 1 + length (run_of (drop 1 after)) ≤ n = λ e. omega (arith, next_some 39 after e, length-drop 1 after, length-prefix_len is_run (drop 1 after), prefix_len-le-length is_run (drop 1 after)) in
+    let behind : next_is 39 after ≡ true → length r + 1 + length (run_of (drop 1 after)) ≤ n =
+    λ e. omega (arith, next_some 39 after e, length-drop 1 after, length-prefix_len is_run (drop 1 after), prefix_len-le-length is_run (drop 1 after)) in
     one_within n (is_word r) (piece (mark r) (length r)) (cond (is_name r) (piece (name r) (length r)) (cond (next_is 39 after) (sized_at r (run_of (drop 1 after)) (after_run (drop 1 after))) (cond (is_plain r) (piece (plain (digits_value 10 r)) (length r)) None))) (λ e. (some, short))
     (λ e. one_within n (is_name r) (piece (name r) (length r)) (cond (next_is 39 after) (sized_at r (run_of (drop 1 after)) (after_run (drop 1 after))) (cond (is_plain r) (piece (plain (digits_value 10 r)) (length r)) None)) (λ e. (some, short))
     (λ e. one_within n (next_is 39 after) (sized_at r (run_of (drop 1 after)) (after_run (drop 1 after))) (cond (is_plain r) (piece (plain (digits_value 10 r)) (length r)) None) (λ e. sized_within n r (run_of (drop 1 after)) (after_run (drop 1 after)) (behind e))
@@ -128,6 +133,7 @@ longest_within (b ∷ bs) =
     (λ e. one_within n (eqb b 47) (comment_at bs) (cond (is_run b) (run_at (run_of (b ∷ bs)) (after_run (b ∷ bs))) (symbol_at b bs)) (λ f. comment_within bs)
     (λ f. one_within n (is_run b) (run_at (run_of (b ∷ bs)) (after_run (b ∷ bs))) (symbol_at b bs) runs (λ g. symbol_within b bs)))
 
-pub piece_within : (o : Option Piece) (bs : List ℕ) → option_map piece_of o ≡ piece_at bs → IfSome o (λ p. (0 < p.len) × (p.len ≤ length bs))
+pub piece_within : (o : Option Piece) (bs : List ℕ) → option_map piece_of o ≡ piece_at bs
+    → IfSome o (λ p. (0 < p.len) × (p.len ≤ length bs))
 piece_within None bs e = tt
 piece_within (Some p) bs e = subst (λ x. IsWithin (length bs) x) (sym e) (longest_within bs)

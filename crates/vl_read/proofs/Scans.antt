@@ -22,10 +22,12 @@ next_none b (c ∷ cs) h = absurd (omega arith)
 abbrev pub closes : List ℕ → ℕ → Bool
 closes bs i = eqb (get_or bs i 0) 42 && next_is 47 (drop (i + 1) bs)
 
-close_one : (bs : List ℕ) (i : ℕ) → i < length bs → to_close (drop i bs) ≡ cond (closes bs i) (Some 2) (option_map suc (to_close (drop (i + 1) bs)))
+close_one : (bs : List ℕ) (i : ℕ) → i < length bs
+    → to_close (drop i bs) ≡ cond (closes bs i) (Some 2) (option_map suc (to_close (drop (i + 1) bs)))
 close_one bs i lt = rw (drop_more bs i 0 lt) refl
 
-pub close_here : (bs : List ℕ) (i : ℕ) (w : Option ℕ) → i < length bs → closes bs i ≡ true → option_map (λ n. n + i) (to_close (drop i bs)) ≡ w → Some (i + 2) ≡ w
+pub close_here : (bs : List ℕ) (i : ℕ) (w : Option ℕ) → i < length bs → closes bs i ≡ true
+    → option_map (λ n. n + i) (to_close (drop i bs)) ≡ w → Some (i + 2) ≡ w
 close_here bs i w lt shut so_far =
     let e : to_close (drop i bs) ≡ Some 2 = close_one bs i lt ∙ rw shut refl in
     let k : option_map (λ n. n + i) (to_close (drop i bs)) ≡ Some (2 + i) = rw e refl in
@@ -36,7 +38,9 @@ later : (i : ℕ) (o : Option ℕ) → option_map (λ n. n + (i + 1)) o ≡ opti
 later i None = refl
 later i (Some n) = let e : n + (i + 1) ≡ suc n + i = omega arith in ap Some e
 
-pub close_on : (bs : List ℕ) (i : ℕ) (w : Option ℕ) → i < length bs → closes bs i ≡ false → option_map (λ n. n + i) (to_close (drop i bs)) ≡ w → option_map (λ n. n + (i + 1)) (to_close (drop (i + 1) bs)) ≡ w
+pub close_on : (bs : List ℕ) (i : ℕ) (w : Option ℕ) → i < length bs → closes bs i ≡ false
+    → option_map (λ n. n + i) (to_close (drop i bs)) ≡ w
+    → option_map (λ n. n + (i + 1)) (to_close (drop (i + 1) bs)) ≡ w
 close_on bs i w lt other so_far =
     let e : to_close (drop i bs) ≡ option_map suc (to_close (drop (i + 1) bs)) = close_one bs i lt ∙ rw other refl in
     later i (to_close (drop (i + 1) bs)) ∙ ap (option_map (λ n. n + i)) (sym e) ∙ so_far
@@ -62,7 +66,8 @@ split_last (b ∷ bs) h =
           ap (with_first b) (split_last bs k) ∙ ap (λ r. r ∷ []) (take_on b bs (prefix_len no_space bs))
     ] refl h
 
-pub split_more : (bs : List ℕ) → prefix_len no_space bs < length bs → split bs ≡ take (prefix_len no_space bs) bs ∷ split (drop (prefix_len no_space bs + 1) bs)
+pub split_more : (bs : List ℕ) → prefix_len no_space bs < length bs
+    → split bs ≡ take (prefix_len no_space bs) bs ∷ split (drop (prefix_len no_space bs + 1) bs)
 split_more [] h = absurd (omega arith)
 split_more (b ∷ bs) h =
     elim (eqb b 32) as (λ t. eqb b 32 ≡ t → cond (not t) (1 + prefix_len no_space bs) 0 < suc (length bs) → cond t ([] ∷ split bs) (with_first b (split bs)) ≡ take (cond (not t) (1 + prefix_len no_space bs) 0) (b ∷ bs) ∷ split (drop (cond (not t) (1 + prefix_len no_space bs) 0 + 1) (b ∷ bs))) [
@@ -74,7 +79,8 @@ split_more (b ∷ bs) h =
           ap (with_first b) (split_more bs k) ∙ cc (a, d)
     ] refl h
 
-pub among_first : (r text : List ℕ) (n : ℕ) → n ≡ prefix_len no_space text → n ≤ length text → bytes_eq r (take n text) ≡ true → list_any (bytes_eq r) (split text) ≡ true
+pub among_first : (r text : List ℕ) (n : ℕ) → n ≡ prefix_len no_space text → n ≤ length text
+    → bytes_eq r (take n text) ≡ true → list_any (bytes_eq r) (split text) ≡ true
 among_first r text n is le e =
     elim (eqb n (length text)) as (λ t. eqb n (length text) ≡ t → list_any (bytes_eq r) (split text) ≡ true) [
       | true ↦ λ same.
@@ -87,12 +93,15 @@ among_first r text n is le e =
           rw (k, e) refl
     ] refl
 
-pub among_last : (r text : List ℕ) (n : ℕ) → n ≡ prefix_len no_space text → n ≡ length text → bytes_eq r (take n text) ≡ false → list_any (bytes_eq r) (split text) ≡ false
+pub among_last : (r text : List ℕ) (n : ℕ) → n ≡ prefix_len no_space text → n ≡ length text
+    → bytes_eq r (take n text) ≡ false → list_any (bytes_eq r) (split text) ≡ false
 among_last r text n is all e =
     let k : split text ≡ take n text ∷ [] = rw is (split_last text (sym is ∙ all)) in
     rw (k, e) refl
 
-pub among_more : (r text : List ℕ) (n : ℕ) → n ≡ prefix_len no_space text → n < length text → bytes_eq r (take n text) ≡ false → list_any (bytes_eq r) (split text) ≡ list_any (bytes_eq r) (split (drop (n + 1) text))
+pub among_more : (r text : List ℕ) (n : ℕ) → n ≡ prefix_len no_space text → n < length text
+    → bytes_eq r (take n text) ≡ false
+    → list_any (bytes_eq r) (split text) ≡ list_any (bytes_eq r) (split (drop (n + 1) text))
 among_more r text n is lt e =
     let below : prefix_len no_space text < length text = omega arith in
     let k : split text ≡ take n text ∷ split (drop (n + 1) text) = rw is (split_more text below) in

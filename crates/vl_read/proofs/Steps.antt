@@ -14,7 +14,8 @@ unfolding unread_behind
 unread_none [] e = refl
 unread_none (b ∷ bs) e = let f = sym e in rw f (omega arith)
 
-pub unread_some : (p : Piece) (bs : List ℕ) → 0 < p.len → p.len ≤ length bs → Some (piece_of p) ≡ piece_at bs → unread (drop p.len bs) ≡ unread bs
+pub unread_some : (p : Piece) (bs : List ℕ) → 0 < p.len → p.len ≤ length bs → Some (piece_of p) ≡ piece_at bs
+    → unread (drop p.len bs) ≡ unread bs
 unfolding unread_behind
 unread_some p [] some within e = absurd (omega arith)
 unread_some p (b ∷ bs) some within e =
@@ -27,7 +28,8 @@ tokens_none [] e = refl
 tokens_none (b ∷ bs) e = let f = sym e in rw f refl
 
 -- the tokens from a piece on
-pub tokens_some : (p : Piece) (bs : List ℕ) → 0 < p.len → p.len ≤ length bs → Some (piece_of p) ≡ piece_at bs → with_token (token_in p.token) (length bs) (tokens_of (drop p.len bs)) ≡ tokens_of bs
+pub tokens_some : (p : Piece) (bs : List ℕ) → 0 < p.len → p.len ≤ length bs → Some (piece_of p) ≡ piece_at bs
+    → with_token (token_in p.token) (length bs) (tokens_of (drop p.len bs)) ≡ tokens_of bs
 unfolding tokens_behind
 tokens_some p [] some within e = absurd (omega arith)
 tokens_some p (b ∷ bs) some within e =

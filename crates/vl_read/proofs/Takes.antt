@@ -20,7 +20,8 @@ text_length : (ts : List Placed) → length (text_of ts) ≡ length ts
 text_length [] = refl
 text_length (t ∷ ts) = ap suc (text_length ts)
 
-takes_of : {X : Type 0} (s : X → List Token) (V : X → Type 0) (f : Token → Bool) (p : Reader X) → IsForm s V f p → ((x : X) → 0 < length (s x)) → Takes p
+takes_of : {X : Type 0} (s : X → List Token) (V : X → Type 0) (f : Token → Bool) (p : Reader X) → IsForm s V f p
+    → ((x : X) → 0 < length (s x)) → Takes p
 takes_of s V f p form some ts x r e =
     let a = (form.at ts).found x r e in
     omega (arith, some x, ap length a.parts, length-append a.front r, text_length a.front, ap length a.spelled)
@@ -55,11 +56,13 @@ top_item_takes = takes_of _ _ _ top_item_at top_item_form top_item_some
 ok_err : {X : Type 0} {x : X × List Placed} {n : ℕ} → Ok x ≡ Err n → ⊥
 ok_err e = absurd cc
 
-no_part : (o : Result (Unit {0} × List Placed) ℕ) (ts : List Placed) (x : Expr) (r : List Placed) → phrase (codes ",") ts ≡ o → part_at (expr_at zero) ts ≡ Ok (x, r) → length r < length ts
+no_part : (o : Result (Unit {0} × List Placed) ℕ) (ts : List Placed) (x : Expr) (r : List Placed)
+    → phrase (codes ",") ts ≡ o → part_at (expr_at zero) ts ≡ Ok (x, r) → length r < length ts
 unfolding expr_at none both made
 no_part (Ok y) ts x r is e = let h : part_at (expr_at zero) ts ≡ Err (left_of y.1) = rw is refl in absurd (ok_err (sym e ∙ h))
 no_part (Err n) ts x r is e = let h : part_at (expr_at zero) ts ≡ Err n = rw is refl in absurd (ok_err (sym e ∙ h))
 
 pub part_takes : (d : ℕ) → Takes (part_at (expr_at d))
-part_takes (suc d) ts x r e = takes_of _ _ _ (part_at (expr_at (suc d))) (opened_form (codes ",") refl (an_expr d) (expr_form (suc d))) (λ x. omega arith) ts x r e
+part_takes (suc d) ts x r e =
+    takes_of _ _ _ (part_at (expr_at (suc d))) (opened_form (codes ",") refl (an_expr d) (expr_form (suc d))) (λ x. omega arith) ts x r e
 part_takes zero ts x r e = no_part (phrase (codes ",") ts) ts x r refl e

@@ -8,7 +8,7 @@ ghost use Rattle.vl_tree.specs.Spells as spells;
 use crate::piece::piece_at;
 use crate::scan::behind;
 
-// Whether a text may have this byte.
+/// Whether a text may have this byte.
 fn is_text_byte(b: u8) -> bool
     ensures { result ≡ spells.is_text_byte b }
 {

@@ -17,7 +17,7 @@ use crate::modules::design;
 use std::alloc::Global;
 use vl_tree::{Design, TextFault};
 
-// The design of a text that is made of tokens, blanks and comments.
+/// The design of a text that is made of tokens, blanks and comments.
 fn parsed(alloc: Global, bytes: &[u8]) -> Result<Design, ReadError>
     ensures { Gives views.read_design result (design_at (tokens_of bytes.now)) }
 {

@@ -25,21 +25,21 @@ fn digit(b: u8) -> u64
     }
 }
 
-// Whether each byte is a digit of the base.
+/// Whether each byte is a digit of the base.
 fn all_digits(base: u64, bytes: &[u8]) -> bool
     ensures { result ≡ tokens.all_digits base bytes.now }
 {
     bytes.iter().all(|d| digit(*d) < base)
 }
 
-// The number that follows another by one digit, if it fits.
+/// The number that follows another by one digit, if it fits.
 fn next(base: u64, number: u64, d: u64) -> Option<u64>
     ensures { result ≡ (if nat_lt (number * base + d) (2 ^ 64) then Some (number * base + d) else None) }
 {
     number.checked_mul(base)?.checked_add(d)
 }
 
-// The number that the digits write, if it fits.
+/// The number that the digits write, if it fits.
 fn value(base: u64, digits: &[u8]) -> Option<u64>
     requires { 0 < base }
     ensures { result
@@ -52,7 +52,7 @@ fn value(base: u64, digits: &[u8]) -> Option<u64>
     Some(number)
 }
 
-// Whether a value has at most so many bits.
+/// Whether a value has at most so many bits.
 fn below(value: u64, width: u32) -> bool
     requires { width ≤ 64 }
     ensures { result ≡ nat_lt value (2 ^ width) }

@@ -58,7 +58,7 @@ fn gap<'a>(len: usize) -> Option<Piece<'a>>
     Some(Piece { token: None, len })
 }
 
-// The comment whose first slash stands before these bytes.
+/// The comment whose first slash stands before these bytes.
 fn comment(bytes: &[u8]) -> Option<Piece<'_>>
     ensures { option_map piece_of result ≡ tokens.comment_at bytes.now }
 {
@@ -72,7 +72,7 @@ fn comment(bytes: &[u8]) -> Option<Piece<'_>>
     None
 }
 
-// The constant of a width, of what stands behind its quote, and of the bytes after that.
+/// The constant of a width, of what stands behind its quote, and of the bytes after that.
 fn constant<'a>(width: &[u8], digits: &[u8], after: &[u8]) -> Option<Piece<'a>>
     requires { length digits.now + length width.now + 2 < 18446744073709551616 }
     ensures { option_map piece_of result ≡ tokens.sized_at width.now digits.now after.now }
@@ -94,7 +94,7 @@ fn constant<'a>(width: &[u8], digits: &[u8], after: &[u8]) -> Option<Piece<'a>>
     })
 }
 
-// The token of a run and of the bytes after it.
+/// The token of a run and of the bytes after it.
 fn run<'a>(bytes: &'a [u8], after: &'a [u8]) -> Option<Piece<'a>>
     ensures { option_map piece_of result ≡ tokens.run_at bytes.now after.now }
 {
@@ -123,7 +123,7 @@ fn run<'a>(bytes: &'a [u8], after: &'a [u8]) -> Option<Piece<'a>>
     })
 }
 
-// The symbol of two bytes, or else of one.
+/// The symbol of two bytes, or else of one.
 fn symbol(bytes: &[u8]) -> Option<Piece<'_>>
     requires { 0 < length bytes.now }
     ensures { option_map piece_of result ≡ tokens.symbol_at (slice_index bytes.now 0) (drop 1 bytes.now) }
@@ -144,7 +144,7 @@ fn symbol(bytes: &[u8]) -> Option<Piece<'_>>
     None
 }
 
-// The longest piece at the front of some bytes.
+/// The longest piece at the front of some bytes.
 fn longest(bytes: &[u8]) -> Option<Piece<'_>>
     requires { 0 < length bytes.now }
     ensures { option_map piece_of result ≡ tokens.piece_at bytes.now }

@@ -23,7 +23,7 @@ pub fn behind(bytes: &[u8], n: usize) -> &[u8]
     bytes.split_at(n).1
 }
 
-// Whether the next byte is this one.
+/// Whether the next byte is this one.
 #[tactic(auto, using(crate::proofs::Scans::next_first, crate::proofs::Scans::next_none))]
 pub fn next_is(b: u8, bytes: &[u8]) -> bool
     ensures { result ≡ tokens.next_is b bytes.now }
@@ -34,7 +34,7 @@ pub fn next_is(b: u8, bytes: &[u8]) -> bool
     bytes[0] == b
 }
 
-// How many letters, digits and underscores stand at the front.
+/// How many letters, digits and underscores stand at the front.
 pub fn run_len(bytes: &[u8]) -> usize
     ensures value { result ≡ prefix_len tokens.is_run bytes.now }
     ensures within { result ≤ length bytes.now }
@@ -47,7 +47,7 @@ pub fn run_len(bytes: &[u8]) -> usize
     bytes.len()
 }
 
-// How many bytes there are before the next one of this kind.
+/// How many bytes there are before the next one of this kind.
 pub fn len_before(end: u8, bytes: &[u8]) -> usize
     ensures value { result ≡ prefix_len (λ c. not (c == end)) bytes.now }
     ensures within { result ≤ length bytes.now }
@@ -60,7 +60,7 @@ pub fn len_before(end: u8, bytes: &[u8]) -> usize
     bytes.len()
 }
 
-// Whether `*/` stands at the place.
+/// Whether `*/` stands at the place.
 fn closes_at(bytes: &[u8], i: usize) -> bool
     requires { i < length bytes.now }
     ensures { result ≡ (slice_index bytes.now i == 42) && tokens.next_is 47 (drop (i + 1) bytes.now) }
@@ -69,7 +69,7 @@ fn closes_at(bytes: &[u8], i: usize) -> bool
     bytes[i] == 42 && slash
 }
 
-// How many bytes there are up to the end of the next `*/`.
+/// How many bytes there are up to the end of the next `*/`.
 pub fn to_close(bytes: &[u8]) -> Option<usize>
     ensures value { result ≡ tokens.to_close bytes.now }
     ensures within { IfSome result (λ n. n ≤ length bytes.now + 1) }
@@ -89,7 +89,7 @@ pub fn same(a: &[u8], b: &[u8]) -> bool
     a == b
 }
 
-// Whether these bytes are one of the parts of a text between single spaces.
+/// Whether these bytes are one of the parts of a text between single spaces.
 pub fn is_among(bytes: &[u8], text: &[u8]) -> bool
     ensures { result ≡ list_any (bytes_eq bytes.now) (tokens.split text.now) }
 {

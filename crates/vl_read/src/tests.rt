@@ -14,15 +14,46 @@ fn joined(alloc: Global, front: &[u8], back: &[u8]) -> Result<Vec<u8>, AllocErro
     Ok(text)
 }
 
-// A text of the grammar, in which two widths don't agree.
+/// A text of the grammar, in which two widths don't agree.
 const WRONG_WIDTH: &[u8] =
-    b"module r_0 (input wire clk, input wire rst, output wire [1:0] q_0);\n  assign q_0 = 3'd0;\nendmodule\nmodule noc (input wire clk, input wire rst);\nendmodule\n";
+    b"module r_0 (input wire clk, input wire rst, output wire [1:0] q_0);\n  \
+      assign q_0 = 3'd0;\n\
+      endmodule\n\
+      module noc (input wire clk, input wire rst);\n\
+      endmodule\n";
 
-// A text whose one tile drops every word.
-const DROPS_EVERY_WORD: &[u8] =
-    b"module router_0 (input wire clk, input wire rst,\n  input wire [0:0] ov_0_0, input wire [31:0] oa_0_0,\n  input wire [31:0] op_0_0, input wire [0:0] ol_0_0,\n  input wire [0:0] hr_0_0, output wire [0:0] rd_0_0,\n  output wire [0:0] dr_0_0, output wire [0:0] ev_0_0,\n  output wire [0:0] eh_0_0, output wire [0:0] et_0_0,\n  output wire [31:0] ep_0_0);\n  reg [0:0] s_0;\n  assign rd_0_0 = 1'd1;\n  assign dr_0_0 = s_0;\n  assign ev_0_0 = 1'd0;\n  assign eh_0_0 = 1'd0;\n  assign et_0_0 = 1'd0;\n  assign ep_0_0 = 32'd0;\n  always @(posedge clk) if (rst) s_0 <= 1'd0; else s_0 <= ov_0_0;\nendmodule\nmodule noc (input wire clk, input wire rst,\n  input wire [0:0] ov_0_0, input wire [31:0] oa_0_0,\n  input wire [31:0] op_0_0, input wire [0:0] ol_0_0,\n  input wire [0:0] hr_0_0, output wire [0:0] rd_0_0,\n  output wire [0:0] dr_0_0, output wire [0:0] ev_0_0,\n  output wire [0:0] eh_0_0, output wire [0:0] et_0_0,\n  output wire [31:0] ep_0_0);\n  router_0 tile_0 (.clk(clk), .rst(rst), .ov_0_0(ov_0_0),\n    .oa_0_0(oa_0_0), .op_0_0(op_0_0), .ol_0_0(ol_0_0),\n    .hr_0_0(hr_0_0), .rd_0_0(rd_0_0), .dr_0_0(dr_0_0),\n    .ev_0_0(ev_0_0), .eh_0_0(eh_0_0), .et_0_0(et_0_0),\n    .ep_0_0(ep_0_0));\nendmodule\n";
+/// A text whose one tile drops every word.
+const DROPS_EVERY_WORD: &[u8] = b"module router_0 (input wire clk, input wire rst,\n  \
+      input wire [0:0] ov_0_0, input wire [31:0] oa_0_0,\n  \
+      input wire [31:0] op_0_0, input wire [0:0] ol_0_0,\n  \
+      input wire [0:0] hr_0_0, output wire [0:0] rd_0_0,\n  \
+      output wire [0:0] dr_0_0, output wire [0:0] ev_0_0,\n  \
+      output wire [0:0] eh_0_0, output wire [0:0] et_0_0,\n  \
+      output wire [31:0] ep_0_0);\n  \
+      reg [0:0] s_0;\n  \
+      assign rd_0_0 = 1'd1;\n  \
+      assign dr_0_0 = s_0;\n  \
+      assign ev_0_0 = 1'd0;\n  \
+      assign eh_0_0 = 1'd0;\n  \
+      assign et_0_0 = 1'd0;\n  \
+      assign ep_0_0 = 32'd0;\n  \
+      always @(posedge clk) if (rst) s_0 <= 1'd0; else s_0 <= ov_0_0;\n\
+      endmodule\n\
+      module noc (input wire clk, input wire rst,\n  \
+      input wire [0:0] ov_0_0, input wire [31:0] oa_0_0,\n  \
+      input wire [31:0] op_0_0, input wire [0:0] ol_0_0,\n  \
+      input wire [0:0] hr_0_0, output wire [0:0] rd_0_0,\n  \
+      output wire [0:0] dr_0_0, output wire [0:0] ev_0_0,\n  \
+      output wire [0:0] eh_0_0, output wire [0:0] et_0_0,\n  \
+      output wire [31:0] ep_0_0);\n  \
+      router_0 tile_0 (.clk(clk), .rst(rst), .ov_0_0(ov_0_0),\n    \
+      .oa_0_0(oa_0_0), .op_0_0(op_0_0), .ol_0_0(ol_0_0),\n    \
+      .hr_0_0(hr_0_0), .rd_0_0(rd_0_0), .dr_0_0(dr_0_0),\n    \
+      .ev_0_0(ev_0_0), .eh_0_0(eh_0_0), .et_0_0(et_0_0),\n    \
+      .ep_0_0(ep_0_0));\n\
+      endmodule\n";
 
-// The number of the fault, and its place.
+/// The number of the fault, and its place.
 fn outcome(read: Result<Design, TextFault>) -> (u8, u64) {
     match read {
         Ok(_) => (0, 0),
@@ -71,7 +102,7 @@ fn faults_of_constants(rt: HostRuntime) -> Result<(), Fail> {
     Ok(())
 }
 
-// The text with so many complements open.
+/// The text with so many complements open.
 fn opened(alloc: Global, depth: usize) -> Result<Vec<u8>, AllocError> {
     let mut text = Vec::from_slice(alloc, LEAF)?;
     for _ in 0..depth {
@@ -80,7 +111,7 @@ fn opened(alloc: Global, depth: usize) -> Result<Vec<u8>, AllocError> {
     Ok(text)
 }
 
-// The text with so many complements around a name.
+/// The text with so many complements around a name.
 fn nested(alloc: Global, depth: usize) -> Result<Vec<u8>, AllocError> {
     let mut text = opened(alloc, depth)?;
     text.extend_from_slice(b"q_0")?;
@@ -126,7 +157,7 @@ fn reads_a_design(rt: HostRuntime) -> Result<(), Fail> {
     Ok(())
 }
 
-// Each blank twice.
+/// Each blank twice.
 fn doubled(alloc: Global, text: &[u8]) -> Result<Vec<u8>, AllocError> {
     let mut wide = Vec::new(alloc);
     for b in text {

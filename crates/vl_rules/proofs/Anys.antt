@@ -15,13 +15,17 @@ pub nets-at : (p : List ℕ → Bool) (xs : List code.Expr) (i : ℕ) (x : code.
     → list_any p (parts_nets (reads (drop i xs))) ≡ (list_any p (nets_of (read x)) || list_any p (parts_nets (reads (drop (i + 1) xs))))
 nets-at p [] i x h e = absurd (omega arith)
 nets-at p (y ∷ xs) zero x h e = rw e (list_any-append p (nets_of (read y)) (parts_nets (reads xs)))
-nets-at p (y ∷ xs) (suc i) x h e = nets-at p xs i x (omega arith) e ∙ ap (λ z. list_any p (nets_of (read x)) || list_any p (parts_nets (reads z))) (drop-more y xs i)
+nets-at p (y ∷ xs) (suc i) x h e =
+    nets-at p xs i x (omega arith) e
+    ∙ ap (λ z. list_any p (nets_of (read x)) || list_any p (parts_nets (reads z))) (drop-more y xs i)
 
 -- the memories that the parts from the i-th on read
 pub uses-at : (p : Use → Bool) (xs : List code.Expr) (i : ℕ) (x : code.Expr) → i < length xs → x ≡ get_or xs i x
     → list_any p (parts_uses (reads (drop i xs))) ≡ (list_any p (uses_of (read x)) || list_any p (parts_uses (reads (drop (i + 1) xs))))
 uses-at p [] i x h e = absurd (omega arith)
 uses-at p (y ∷ xs) zero x h e = rw e (list_any-append p (uses_of (read y)) (parts_uses (reads xs)))
-uses-at p (y ∷ xs) (suc i) x h e = uses-at p xs i x (omega arith) e ∙ ap (λ z. list_any p (uses_of (read x)) || list_any p (parts_uses (reads z))) (drop-more y xs i)
+uses-at p (y ∷ xs) (suc i) x h e =
+    uses-at p xs i x (omega arith) e
+    ∙ ap (λ z. list_any p (uses_of (read x)) || list_any p (parts_uses (reads z))) (drop-more y xs i)
 
 pub ruleset anys = (list_any-append, nets-at, uses-at)

@@ -25,7 +25,8 @@ pub bits-at : (w : Widths) (xs : List code.Expr) (i : ℕ) (x : code.Expr) → i
     → widths_of w (reads (drop i xs)) ≡ width_of w (read x) + widths_of w (reads (drop (i + 1) xs))
 bits-at w [] i x h e = absurd (omega arith)
 bits-at w (y ∷ xs) zero x h e = rw e refl
-bits-at w (y ∷ xs) (suc i) x h e = bits-at w xs i x (omega arith) e ∙ ap (λ z. width_of w (read x) + widths_of w (reads z)) (drop-more y xs i)
+bits-at w (y ∷ xs) (suc i) x h e =
+    bits-at w xs i x (omega arith) e ∙ ap (λ z. width_of w (read x) + widths_of w (reads z)) (drop-more y xs i)
 
 -- an index of 64 bits and more fits no memory
 pub too-wide : (b w n m : ℕ) → b ≡ min 64 w → n ≡ m → 64 ≤ b → n < 18446744073709551616 → ltb b 64 ≡ (2 ^ w == m)

@@ -14,4 +14,6 @@ pub fault_at : (xs : List Rule) (ps : List Site) (i : ℕ) (x : Rule) → i < le
     → first_fault_of (map rule_of (drop i xs)) ps ≡ or_later (fault_by (rule_of x) ps) (first_fault_of (map rule_of (drop (i + 1) xs)) ps)
 fault_at [] ps i x h e = absurd (omega arith)
 fault_at (y ∷ xs) ps zero x h e = rw e refl
-fault_at (y ∷ xs) ps (suc i) x h e = fault_at xs ps i x (omega arith) e ∙ ap (λ z. or_later (fault_by (rule_of x) ps) (first_fault_of (map rule_of z) ps)) (drop-more y xs i)
+fault_at (y ∷ xs) ps (suc i) x h e =
+    fault_at xs ps i x (omega arith) e
+    ∙ ap (λ z. or_later (fault_by (rule_of x) ps) (first_fault_of (map rule_of z) ps)) (drop-more y xs i)

@@ -14,6 +14,7 @@ use Rattle.vl_rules.specs.Scope.{Assigns}
 use Rattle.vl_rules.specs.Tallies.{Counts, Depends}
 use Rattle.vl_rules.specs.Site.{leaves_before}
 
+-- the fault of a rule at an item
 abbrev pub fault_of : Rule → ℕ → TextFault
 fault_of NameTwice = faults.NameTwice
 fault_of NameUnknown = faults.NameUnknown

@@ -30,6 +30,7 @@ pub record IsLibrary (b : Library) : Type 0 where
   pub numbers : (n : Name) → found b.numbers n ≡ first_leaf (read_leaves b.leaves.now) n
   pub declared : AreDeclared b.leaves.now b.declared.items
 
+-- a port without its name
 abbrev pub shape_of : Port → Shape
 shape_of p = record { output = p.output; high = p.high }
 

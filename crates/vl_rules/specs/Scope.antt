@@ -12,6 +12,7 @@ use Rattle.vl_rules.specs.declared.scope.Role.{Role}
 use Rattle.vl_rules.specs.declared.scope.Role.TheVariants.{Net, Driven, Register, Memory}
 use Rattle.vl_rules.specs.Names.{found}
 
+-- what an entry says of its name
 abbrev pub declared_as : Name → Entry → Declared
 declared_as n e = record { name = n; kind = e.kind; high = e.high; last = e.last }
 
@@ -26,6 +27,7 @@ abbrev pub before : ℕ → Name → Option Entry → Option Declared
 before k n None = None
 before k n (Some e) = if nat_lt e.line k then Some (declared_as n e) else None
 
+-- what the table says that a name is declared as before line k
 abbrev pub seen : Names Entry → ℕ → Name → Option Declared
 seen t k n = before k n (found t n)
 
@@ -38,6 +40,7 @@ abbrev pub is_below : ℕ → Option ℕ → Bool
 is_below k None = false
 is_below k (Some i) = nat_lt i k
 
+-- whether the table says that a name is assigned before line k
 abbrev pub assigned_before : Names ℕ → ℕ → Name → Bool
 assigned_before t k n = is_below k (found t n)
 
@@ -49,6 +52,7 @@ Assigns t lines = (k : ℕ) (n : Name) → assigned_before t k n ≡ list_any (a
 abbrev pub count : Names ℕ → Name → ℕ
 count t n = min 2 (unwrap_or (found t n) 0)
 
+-- whether a name of this kind can have the role
 abbrev pub role_passes : Role → Kind → Bool
 role_passes Net = is_net
 role_passes Driven = is_driven

@@ -106,7 +106,7 @@ fn breaks(
     }
 }
 
-// The first line of the module at which the check finds a fault.
+/// The first line of the module at which the check finds a fault.
 fn search(alloc: Global, check: &Check, site: &Site) -> Result<Option<usize>, AllocError>
     requires known { IsKnown site.now }
     requires ready { IsReady site.now check.now }

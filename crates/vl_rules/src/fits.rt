@@ -81,7 +81,8 @@ fn fits_join(site: &Site, number: usize, leaf: &Known, join: &Join) -> bool
 fn fits_joins(site: &Site, number: usize, leaf: &Known, joins: &[Join]) -> bool
     requires { Declares leaf.now.declared.now (leaf_lines (read_leaf leaf.now.leaf.now)) }
     ensures { result
-        ≡ list_all (λ (j : Join). rules.join_fits (widths_at site.now.declared.now number) j.net (port_named leaf.now.leaf.now.ports j.port)) joins.now }
+        ≡ list_all (λ (j : Join). rules.join_fits (widths_at site.now.declared.now number) j.net
+        (port_named leaf.now.leaf.now.ports j.port)) joins.now }
 {
     for join in joins {
         if !fits_join(site, number, leaf, join) {
@@ -119,7 +120,7 @@ pub fn fits_line(site: &Site, number: usize, line: &Line) -> bool
     fits(site, number, line)
 }
 
-// Whether a memory may have so many words.
+/// Whether a memory may have so many words.
 fn is_size(words: u64) -> bool
     ensures { result ≡ rules.is_size words }
 {

@@ -22,7 +22,7 @@ use crate::site::Site;
 use std::alloc::{AllocError, Global};
 use vl_tree::{Design, TextFault, Top};
 
-// The rules, by the numbers of their faults.
+/// The rules, by the numbers of their faults.
 const RULES: [Rule; 8] = [
     Rule::NameTwice,
     Rule::NameUnknown,
@@ -34,7 +34,7 @@ const RULES: [Rule; 8] = [
     Rule::Instance,
 ];
 
-// The sum. A number of a line that doesn't fit counts as memory that ran out.
+/// The sum. A number of a line that doesn't fit counts as memory that ran out.
 fn sum(a: u64, b: usize) -> Result<u64, AllocError>
     ensures { IfOk result (λ n. n ≡ a + b) }
 {
@@ -76,7 +76,7 @@ fn top_site<'a>(library: &'a Library<'a>, top: &'a Top, declared: &'a Names<Entr
     }
 }
 
-// The first line of the design that breaks the rule.
+/// The first line of the design that breaks the rule.
 fn first_line<'a>(
     alloc: Global,
     rule: Rule,

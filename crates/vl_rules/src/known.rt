@@ -104,7 +104,8 @@ fn knows_joins(site: &Site, number: usize, leaf: &Known, joins: &[Join]) -> bool
     requires known { IsKnown site.now }
     requires leaf { Declares leaf.now.declared.now (leaf_lines (read_leaf leaf.now.leaf.now)) }
     ensures { result
-        ≡ list_all (λ (j : Join). rules.joins_known (lines_before site.now number) j.net (port_named leaf.now.leaf.now.ports j.port)) joins.now }
+        ≡ list_all (λ (j : Join). rules.joins_known (lines_before site.now number) j.net
+        (port_named leaf.now.leaf.now.ports j.port)) joins.now }
 {
     for join in joins {
         if !knows_join(site, number, leaf, join) {

@@ -29,7 +29,7 @@ pub fn count_one(alloc: Global, table: &mut Names<u8>, name: &[u8]) -> Result<()
     Ok(())
 }
 
-// Counts the net of the join, if it is joined to an output port.
+/// Counts the net of the join, if it is joined to an output port.
 fn count_join(
     alloc: Global,
     table: &mut Names<u8>,
@@ -68,7 +68,7 @@ fn count_joins(
     Ok(())
 }
 
-// Counts what the line drives, where this many leaves stand before it.
+/// Counts what the line drives, where this many leaves stand before it.
 fn count_line(
     alloc: Global,
     table: &mut Names<u8>,
@@ -112,7 +112,7 @@ pub fn driver_counts(
     Ok(table)
 }
 
-// Adds what depends on the names of the set, or on the outside, by this line.
+/// Adds what depends on the names of the set, or on the outside, by this line.
 fn mark_line(alloc: Global, set: &mut Names<()>, line: &Line) -> Result<(), AllocError>
     ensures { OnOk result ((ns : List Name) → IsSet set.old ns → IsSet set.new (depending ns (line_of line.now))) }
 {

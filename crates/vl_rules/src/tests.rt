@@ -6,10 +6,10 @@ use vl_tree::TextFault;
 
 const LEAF: &[u8] = b"module r_0 (input wire clk, input wire rst, ";
 
-// A top without ports, items or instances.
+/// A top without ports, items or instances.
 const TOP: &[u8] = b" endmodule module noc (input wire clk, input wire rst); endmodule";
 
-// A text whose one tile drops every word: its ports, what it says of them, and its top.
+/// A text whose one tile drops every word: its ports, what it says of them, and its top.
 const PORTS: &[u8] = b"(input wire clk, input wire rst,
   input wire [0:0] ov_0_0, input wire [31:0] oa_0_0, input wire [31:0] op_0_0, input wire [0:0] ol_0_0,
   input wire [0:0] hr_0_0, output wire [0:0] rd_0_0, output wire [0:0] dr_0_0, output wire [0:0] ev_0_0,
@@ -37,7 +37,7 @@ fn joined(alloc: Global, parts: &[&[u8]]) -> Result<Vec<u8>, AllocError> {
     Ok(text)
 }
 
-// The number of the fault and its line, or 0 and the number of leaves for a sound design. Other faults are 99.
+/// The number of the fault and its line, or 0 and the number of leaves for a sound design. Other faults are 99.
 fn judged(alloc: Global, text: &[u8]) -> (u8, u64) {
     let Ok(design) = read_design(alloc, text) else {
         return (99, 0);

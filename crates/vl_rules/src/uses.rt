@@ -22,7 +22,7 @@ pub enum UseTest<'a> {
     Unfit(&'a Names<Entry>, usize),
 }
 
-// A width of 64 bits stands for all that are wider.
+/// A width of 64 bits stands for all that are wider.
 const MOST: u64 = 64;
 
 fn capped(width: u64) -> u64
@@ -82,7 +82,8 @@ fn bits_in(es: &[Expr], table: &Names<Entry>, number: usize) -> u64
 /// Whether the memory has two to the index's width words.
 pub fn index_fits(table: &Names<Entry>, number: usize, memory: &[u8], index: &Expr) -> bool
     ensures { result
-        ≡ (2 ^ width_of (widths_at table.now number) (read index.now) == word_count (seen table.now number memory.now)) }
+        ≡ (2 ^ width_of (widths_at table.now number) (read index.now)
+        == word_count (seen table.now number memory.now)) }
 {
     let width = bits(index, table, number);
     let words = words(table, number, memory);

@@ -70,7 +70,7 @@ fn boxed(out: &mut Vec<u8>, e: &Boxed<Expr>) -> Result<(), AllocError>
     expr(out, e.get())
 }
 
-// The parts of a concatenation, in braces.
+/// The parts of a concatenation, in braces.
 #[cycle(written)]
 #[tactic(auto, using(crate::proofs::Tails::tail_begins, crate::proofs::Tails::tail_goes_on, crate::proofs::Tails::tail_ends))]
 fn exprs(out: &mut Vec<u8>, es: &[Expr]) -> Result<(), AllocError>
@@ -86,7 +86,7 @@ fn exprs(out: &mut Vec<u8>, es: &[Expr]) -> Result<(), AllocError>
     put(out, b"}")
 }
 
-// What stands before a part.
+/// What stands before a part.
 fn comma(out: &mut Vec<u8>, first: bool) -> Result<(), AllocError>
     ensures { OnOk result (out.new.items ≡ out.old.items ++ comma_text first) }
 {

@@ -35,7 +35,7 @@ mod tests {
         Boxed::new(alloc, net(alloc, text)?)
     }
 
-    // Every operator, one inside the next.
+    /// Every operator, one inside the next.
     fn operators(alloc: Global) -> Result<Expr, AllocError> {
         let mut e = net(alloc, b"a_0")?;
         for op in [
@@ -52,7 +52,7 @@ mod tests {
         Ok(e)
     }
 
-    // A net, a constant, a part, a bit and a complement.
+    /// A net, a constant, a part, a bit and a complement.
     fn parts(alloc: Global) -> Result<Expr, AllocError> {
         let mut es = Items::new(alloc);
         es.push(net(alloc, b"a_0")?)?;
@@ -66,7 +66,7 @@ mod tests {
         Ok(Expr::Cat(es))
     }
 
-    // A choice between a word of a memory and a concatenation of one part.
+    /// A choice between a word of a memory and a concatenation of one part.
     fn choice(alloc: Global) -> Result<Expr, AllocError> {
         let mut es = Items::new(alloc);
         es.push(net(alloc, b"b_1")?)?;

@@ -214,7 +214,7 @@ fn top(out: &mut Vec<u8>, t: &Top) -> Result<(), AllocError>
     put(out, b"endmodule\n")
 }
 
-// About how many bytes are written: 64 for each line.
+/// About how many bytes are written: 64 for each line.
 fn room(design: &Design) -> usize {
     let leaves = leaf_lines(design.leaves.as_slice());
     let top = top_lines(design.top.items.as_slice());

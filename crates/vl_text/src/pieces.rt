@@ -7,14 +7,14 @@ use itoa::Buffer;
 use std::alloc::AllocError;
 use vl_tree::{Const, Op};
 
-// Adds bytes at the end.
+/// Adds bytes at the end.
 pub fn put(out: &mut Vec<u8>, bytes: &[u8]) -> Result<(), AllocError>
     ensures { OnOk result (out.new.items ≡ out.old.items ++ bytes.now) }
 {
     out.extend_from_slice(bytes)
 }
 
-// Adds a number in decimal.
+/// Adds a number in decimal.
 fn number(out: &mut Vec<u8>, v: u64) -> Result<(), AllocError>
     ensures { OnOk result (out.new.items ≡ out.old.items ++ decimal v) }
 {
@@ -50,7 +50,7 @@ pub fn op(out: &mut Vec<u8>, o: Op) -> Result<(), AllocError>
     }
 }
 
-// A range down to 0, and the name that it is for.
+/// A range down to 0, and the name that it is for.
 pub fn ranged(out: &mut Vec<u8>, high: u32, name: &[u8]) -> Result<(), AllocError>
     ensures { OnOk result (out.new.items ≡ out.old.items ++ ranged_text high name.now) }
 {

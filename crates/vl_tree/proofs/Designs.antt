@@ -11,10 +11,12 @@ use Rattle.vl_tree.proofs.Forms.{Alike, any_follows, done, ok_pair, Found, Faile
 use Rattle.vl_tree.proofs.Modules.{modules_form, a_design}
 use Rattle.vl_tree.proofs.Lexed.{tokens_right, tokens_within, within_rest}
 
-modules_again : (d : Design) (front r : List Placed) → DesignFits d → AreTokens (design_tokens d) → text_of front ≡ design_tokens d → modules_at (front ++ r) ≡ Ok (d, r)
+modules_again : (d : Design) (front r : List Placed) → DesignFits d → AreTokens (design_tokens d)
+    → text_of front ≡ design_tokens d → modules_at (front ++ r) ≡ Ok (d, r)
 modules_again d front r fits right e = modules_form.again d fits front r right e (any_follows r)
 
-pub design_again : (d : Design) (ts : List Placed) → DesignFits d → AreTokens (design_tokens d) → text_of ts ≡ design_tokens d → design_at ts ≡ Ok d
+pub design_again : (d : Design) (ts : List Placed) → DesignFits d → AreTokens (design_tokens d)
+    → text_of ts ≡ design_tokens d → design_at ts ≡ Ok d
 unfolding design_at
 design_again d ts fits right e =
     let a : modules_at ts ≡ Ok (d, []) = ap modules_at (sym (append-nil ts)) ∙ modules_again d ts [] fits right e in
@@ -56,7 +58,8 @@ unfolding lift
 text_lift [] = refl
 text_lift (t ∷ ts) = ap (λ us. t ∷ us) (text_lift ts)
 
-begins_of : (before : List Placed) → Completes design_tokens DesignFits (text_of before) → AreTokens (text_of before) → Begins (text_of before)
+begins_of : (before : List Placed) → Completes design_tokens DesignFits (text_of before) → AreTokens (text_of before)
+    → Begins (text_of before)
 begins_of before c right = record {
   design = c.value;
   rest = c.rest;
@@ -65,18 +68,23 @@ begins_of before c right = record {
 }
 
 -- a text that begins with these tokens is read whole
-read_on : (before : List Placed) (t : Placed) (b : Begins (text_of before ++ (t.token ∷ []))) → modules_at (before ++ (t ∷ lift b.rest)) ≡ Ok (b.design, [])
+read_on : (before : List Placed) (t : Placed) (b : Begins (text_of before ++ (t.token ∷ [])))
+    → modules_at (before ++ (t ∷ lift b.rest)) ≡ Ok (b.design, [])
 read_on before t b =
     let same : text_of (before ++ (t ∷ lift b.rest)) ≡ design_tokens b.design =
-    text_append before (t ∷ lift b.rest) ∙ ap (λ us. text_of before ++ (t.token ∷ us)) (text_lift b.rest) ∙ sym (append_assoc (text_of before) (t.token ∷ []) b.rest) ∙ b.parts in
-    ap modules_at (sym (append-nil (before ++ (t ∷ lift b.rest)))) ∙ modules_again b.design (before ++ (t ∷ lift b.rest)) [] b.plain.fits b.plain.tokens same
+    text_append before (t ∷ lift b.rest) ∙ ap (λ us. text_of before ++ (t.token ∷ us)) (text_lift b.rest)
+    ∙ sym (append_assoc (text_of before) (t.token ∷ []) b.rest) ∙ b.parts in
+    ap modules_at (sym (append-nil (before ++ (t ∷ lift b.rest))))
+    ∙ modules_again b.design (before ++ (t ∷ lift b.rest)) [] b.plain.fits b.plain.tokens same
 
 -- where the modules stop
-stops_at : (bytes : List ℕ) (n place : ℕ) → Failed design_tokens DesignFits modules_at (tokens_of bytes) n → modules_at (tokens_of bytes) ≡ Err n → place + n ≡ length bytes → GrammarPlace bytes place
+stops_at : (bytes : List ℕ) (n place : ℕ) → Failed design_tokens DesignFits modules_at (tokens_of bytes) n
+    → modules_at (tokens_of bytes) ≡ Err n → place + n ≡ length bytes → GrammarPlace bytes place
 unfolding design_at
 stops_at bytes n place f e sum =
     let ts : List Placed = tokens_of bytes in
-    let right : AreTokens (text_of f.before ++ text_of f.after) = subst AreTokens (ap text_of f.parts ∙ text_append f.before f.after) (tokens_right bytes) in
+    let right : AreTokens (text_of f.before ++ text_of f.after) =
+    subst AreTokens (ap text_of f.parts ∙ text_append f.before f.after) (tokens_right bytes) in
     let right_before : AreTokens (text_of f.before) = right_front (text_of f.before) (text_of f.after) right in
     let completes : Completes design_tokens DesignFits (text_of f.before) = elim f.viable as (λ u. Completes design_tokens DesignFits (text_of f.before)) [
       | inl none ↦ subst (λ us. Completes design_tokens DesignFits (text_of us)) (sym none) (complete design_tokens DesignFits a_design)
@@ -99,11 +107,15 @@ stops_at bytes n place f e sum =
     ] f.parts f.place f.dead
 
 -- where tokens stand behind a design
-stands_behind : (bytes : List ℕ) (d : Design) (t : Placed) (rest : List Placed) (place : ℕ) → Found design_tokens DesignFits modules_at (tokens_of bytes) d (t ∷ rest) → place + t.left ≡ length bytes → GrammarPlace bytes place
+stands_behind : (bytes : List ℕ) (d : Design) (t : Placed) (rest : List Placed) (place : ℕ)
+    → Found design_tokens DesignFits modules_at (tokens_of bytes) d (t ∷ rest) → place + t.left ≡ length bytes
+    → GrammarPlace bytes place
 stands_behind bytes d t rest place f sum =
-    let right : AreTokens (text_of f.front ++ text_of (t ∷ rest)) = subst AreTokens (ap text_of f.parts ∙ text_append f.front (t ∷ rest)) (tokens_right bytes) in
+    let right : AreTokens (text_of f.front ++ text_of (t ∷ rest)) =
+    subst AreTokens (ap text_of f.parts ∙ text_append f.front (t ∷ rest)) (tokens_right bytes) in
     let right_front : AreTokens (text_of f.front) = right_front (text_of f.front) (text_of (t ∷ rest)) right in
-    let begins : Begins (text_of f.front) = record { design = d; rest = []; plain = record { tokens = subst AreTokens f.spelled right_front; fits = f.valid }; parts = append-nil (text_of f.front) ∙ f.spelled } in
+    let begins : Begins (text_of f.front) =
+    record { design = d; rest = []; plain = record { tokens = subst AreTokens f.spelled right_front; fits = f.valid }; parts = append-nil (text_of f.front) ∙ f.spelled } in
     inl (
       f.front,
       t,
@@ -113,12 +125,14 @@ stands_behind bytes d t rest place f sum =
       begins,
       λ b.
           let a : modules_at (f.front ++ (t ∷ lift b.rest)) ≡ Ok (b.design, []) = read_on f.front t b in
-          let c : modules_at (f.front ++ (t ∷ lift b.rest)) ≡ Ok (d, t ∷ lift b.rest) = f.alike (t ∷ lift b.rest) refl in
+          let c : modules_at (f.front ++ (t ∷ lift b.rest)) ≡ Ok (d, t ∷ lift b.rest) =
+          f.alike (t ∷ lift b.rest) refl in
           let k = ok_pair d b.design (t ∷ lift b.rest) [] (sym c ∙ a) in
           cc k.1,
     )
 
-pub fault_place : (bytes : List ℕ) (n place : ℕ) → design_at (tokens_of bytes) ≡ Err n → place + n ≡ length bytes → GrammarPlace bytes place
+pub fault_place : (bytes : List ℕ) (n place : ℕ) → design_at (tokens_of bytes) ≡ Err n → place + n ≡ length bytes
+    → GrammarPlace bytes place
 unfolding design_at
 fault_place bytes n place e sum =
     elim (modules_at (tokens_of bytes)) as (λ o. modules_at (tokens_of bytes) ≡ o → ended o ≡ Err n → GrammarPlace bytes place) [
@@ -143,7 +157,8 @@ fault_within bytes n e =
     elim (modules_at (tokens_of bytes)) as (λ o. modules_at (tokens_of bytes) ≡ o → ended o ≡ Err n → n ≤ length bytes) [
       | Ok x ↦ λ is h.
           let f = (modules_form.at (tokens_of bytes)).found x.0 x.1 is in
-          let l = left_within (length bytes) x.1 (within_rest (length bytes) f.front x.1 (subst (λ us. AllByRecursion (λ t. t.left ≤ length bytes) us) f.parts (tokens_within bytes))) in
+          let l =
+          left_within (length bytes) x.1 (within_rest (length bytes) f.front x.1 (subst (λ us. AllByRecursion (λ t. t.left ≤ length bytes) us) f.parts (tokens_within bytes))) in
           elim x.1 as (λ r. left_of r ≤ length bytes → ended_at x.0 r ≡ Err n → n ≤ length bytes) [
             | [] ↦ λ at g. absurd cc
             | t ∷ rest ↦ λ at g. let m : t.left ≡ n = cc g in omega arith
@@ -151,6 +166,7 @@ fault_within bytes n e =
       | Err m ↦ λ is h.
           let same : m ≡ n = cc h in
           let f = (modules_form.at (tokens_of bytes)).fails n (tokens_right bytes) (is ∙ ap Err same) in
-          let l = left_within (length bytes) f.after (within_rest (length bytes) f.before f.after (subst (λ us. AllByRecursion (λ t. t.left ≤ length bytes) us) f.parts (tokens_within bytes))) in
+          let l =
+          left_within (length bytes) f.after (within_rest (length bytes) f.before f.after (subst (λ us. AllByRecursion (λ t. t.left ≤ length bytes) us) f.parts (tokens_within bytes))) in
           omega (arith, f.place)
     ] refl e

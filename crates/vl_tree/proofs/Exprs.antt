@@ -157,11 +157,15 @@ no_word (at_bit i) v = v
 no_word (at_part h l) v = v
 no_word (at_word e) v = v
 
-word_form : (d : ℕ) (below : Reader Expr) → IsForm expr_tokens (Fits d) after_expr below → IsForm behind (IsWord d) any (deeper d (made at_word (closed below (codes "]"))))
-word_form zero below held = same_form behind (IsWord zero) (λ x v. refl) (λ x v. absurd v) no_word (none_form behind any)
-word_form (suc d) below held = made_form (λ e. expr_tokens e ++ marks (codes "]")) (Fits (suc d)) behind (IsWord (suc d)) any at_word (closed below (codes "]")) (λ x v. refl) (λ x v. v) (word_from (suc d)) (closed_form (codes "]") refl refl held)
+word_form : (d : ℕ) (below : Reader Expr) → IsForm expr_tokens (Fits d) after_expr below
+    → IsForm behind (IsWord d) any (deeper d (made at_word (closed below (codes "]"))))
+word_form zero below held =
+    same_form behind (IsWord zero) (λ x v. refl) (λ x v. absurd v) no_word (none_form behind any)
+word_form (suc d) below held =
+    made_form (λ e. expr_tokens e ++ marks (codes "]")) (Fits (suc d)) behind (IsWord (suc d)) any at_word (closed below (codes "]")) (λ x v. refl) (λ x v. v) (word_from (suc d)) (closed_form (codes "]") refl refl held)
 
-index_form : (d : ℕ) (below : Reader Expr) → IsForm expr_tokens (Fits d) after_expr below → IsForm behind (IsIndex d) any (either is_plain_token numbers_at (deeper d (made at_word (closed below (codes "]")))))
+index_form : (d : ℕ) (below : Reader Expr) → IsForm expr_tokens (Fits d) after_expr below
+    → IsForm behind (IsIndex d) any (either is_plain_token numbers_at (deeper d (made at_word (closed below (codes "]")))))
 index_form d below held =
     either_form behind IsNumbers (IsWord d) (IsIndex d) is_plain_token any numbers_at (deeper d (made at_word (closed below (codes "]"))))
     (index_numbers d) (index_word d) (index_split d) numbers_lead (λ x front r w e m. leads_not is_plain_token (behind x) front r (word_lead d x w) e)
@@ -195,7 +199,8 @@ no_front : (front r : List Placed) → text_of front ≡ [] → front ++ r ≡ r
 no_front [] r e = refl
 no_front (t ∷ front) r e = absurd cc
 
-pick_form : (d : ℕ) (below : Reader Expr) → IsForm expr_tokens (Fits d) after_expr below → IsForm pick_tokens (IsPick d) after_expr (pick_at d below)
+pick_form : (d : ℕ) (below : Reader Expr) → IsForm expr_tokens (Fits d) after_expr below
+    → IsForm pick_tokens (IsPick d) after_expr (pick_at d below)
 unfolding pick_at
 pick_form d below held =
     either_form pick_tokens (IsIndex d) (λ x. x ≡ whole) (IsPick d) (is_mark (codes "[")) after_expr (opened (codes "[") (either is_plain_token numbers_at (deeper d (made at_word (closed below (codes "]")))))) (nothing whole)
@@ -256,7 +261,8 @@ picked_named d n (at_bit i) v = tt
 picked_named d n (at_part h l) v = tt
 picked_named d n (at_word e) v = v
 
-named_form : (d : ℕ) (below : Reader Expr) → IsForm expr_tokens (Fits d) after_expr below → IsForm expr_tokens (IsNamed d) after_expr (made (λ x. picked_of x.0 x.1) (both (one the_name) (λ n. pick_at d below)))
+named_form : (d : ℕ) (below : Reader Expr) → IsForm expr_tokens (Fits d) after_expr below
+    → IsForm expr_tokens (IsNamed d) after_expr (made (λ x. picked_of x.0 x.1) (both (one the_name) (λ n. pick_at d below)))
 named_form d below held =
     made_form (s2 (λ n. name n ∷ []) (λ n. pick_tokens)) (V2 all_values (λ n. IsPick d)) expr_tokens (IsNamed d) after_expr (λ x. picked_of x.0 x.1) (both (one the_name) (λ n. pick_at d below))
     (λ x v. picked_spelled d x.0 x.1 v.1) (λ x v. picked_named d x.0 x.1 v.1) (named_from d)
@@ -347,7 +353,8 @@ op_right Xor = tt
 op_right Equal = tt
 op_right Less = tt
 
-rest_form : (d : ℕ) (below : Reader Expr) → IsForm expr_tokens (Fits (suc d)) after_expr below → IsForm rest_tokens (IsRest (suc d)) after_expr (rest_at below)
+rest_form : (d : ℕ) (below : Reader Expr) → IsForm expr_tokens (Fits (suc d)) after_expr below
+    → IsForm rest_tokens (IsRest (suc d)) after_expr (rest_at below)
 unfolding rest_at
 rest_form d below held =
     either_form rest_tokens (IsWhich (suc d)) (IsWith (suc d)) (IsRest (suc d)) (is_mark (codes "?")) after_expr (made (λ x. which x.0 x.1) (both (opened (codes "?") below) (λ b. opened (codes ":") below))) (made (λ x. with x.0 x.1) (both (one the_op) (λ op. below)))
@@ -444,13 +451,16 @@ within_form d below held =
     (λ x v. two_spelled (suc d) x.0 x.1) (λ x v. two_valid (suc d) x.0 x.1 v.0 v.1) (two_from (suc d))
     (then_led held (λ a. rest_form d below held) (λ a v r. record { value = with Add (net (codes "a_0")); valid = tt; right = (tt, (refl, tt)) }) (λ a k v w. rest_after (suc d) k w)))
 
-group_spelled : (d : ℕ) (x : Expr) → IsGroup d x → expr_tokens x ≡ marks (codes "(") ++ (within_tokens x ++ marks (codes ")"))
+group_spelled : (d : ℕ) (x : Expr) → IsGroup d x
+    → expr_tokens x ≡ marks (codes "(") ++ (within_tokens x ++ marks (codes ")"))
 group_spelled d (not e) v = refl
-group_spelled d (two op a b) v = ap (λ ts. mark (codes "(") ∷ ts) (sym (append_assoc (expr_tokens a) (op_mark op ∷ expr_tokens b) (marks (codes ")"))))
+group_spelled d (two op a b) v =
+    ap (λ ts. mark (codes "(") ∷ ts) (sym (append_assoc (expr_tokens a) (op_mark op ∷ expr_tokens b) (marks (codes ")"))))
 group_spelled d (choose c a b) v = ap (λ ts. mark (codes "(") ∷ ts) (simp append_assoc)
 group_spelled d _ v = absurd v
 
-group_form : (d : ℕ) (below : Reader Expr) → IsForm expr_tokens (Fits (suc d)) after_expr below → IsForm expr_tokens (IsGroup (suc d)) any (group_at below)
+group_form : (d : ℕ) (below : Reader Expr) → IsForm expr_tokens (Fits (suc d)) after_expr below
+    → IsForm expr_tokens (IsGroup (suc d)) any (group_at below)
 unfolding group_at
 group_form d below held =
     same_form expr_tokens (IsGroup (suc d)) (group_spelled (suc d)) (λ x v. v) (λ x v. v)
@@ -458,10 +468,12 @@ group_form d below held =
 
 -- ---- in braces
 
-each_more : (es : List Expr) → more_tokens (parts_from es) ≡ each (λ e. marks (codes ",") ++ expr_tokens e) es ++ marks (codes "}")
+each_more : (es : List Expr)
+    → more_tokens (parts_from es) ≡ each (λ e. marks (codes ",") ++ expr_tokens e) es ++ marks (codes "}")
 each_more [] = refl
 each_more (e ∷ es) =
-    ap (λ ts. mark (codes ",") ∷ (expr_tokens e ++ ts)) (each_more es) ∙ ap (λ ts. mark (codes ",") ∷ ts) (sym (append_assoc (expr_tokens e) (each (λ e. marks (codes ",") ++ expr_tokens e) es) (marks (codes "}"))))
+    ap (λ ts. mark (codes ",") ∷ (expr_tokens e ++ ts)) (each_more es)
+    ∙ ap (λ ts. mark (codes ",") ∷ ts) (sym (append_assoc (expr_tokens e) (each (λ e. marks (codes ",") ++ expr_tokens e) es) (marks (codes "}"))))
 
 list_of : Exprs → List Expr
 list_of no_parts = []
@@ -491,8 +503,10 @@ CatOf = Expr × (List Expr × Unit {0})
 abbrev cat_of : CatOf → Expr
 cat_of x = cat (parts x.0 (parts_from x.1.0))
 
-cat_from : (d : ℕ) (y : Expr) → IsCat d y → (x : CatOf) × (Fits d x.0 × (AllByRecursion (Fits d) x.1.0 × Unit {0})) × (cat_of x ≡ y)
-cat_from d (cat (parts e es)) v = ((e, (list_of es, tt)), (v.0, (fit_all d es v.1, tt)), ap (λ us. cat (parts e us)) (list_back es))
+cat_from : (d : ℕ) (y : Expr) → IsCat d y
+    → (x : CatOf) × (Fits d x.0 × (AllByRecursion (Fits d) x.1.0 × Unit {0})) × (cat_of x ≡ y)
+cat_from d (cat (parts e es)) v =
+    ((e, (list_of es, tt)), (v.0, (fit_all d es v.1, tt)), ap (λ us. cat (parts e us)) (list_back es))
 cat_from d _ v = absurd v
 
 comma_after : (k : Token) → is_mark (codes ",") k ≡ true → after_expr k ≡ true
@@ -501,7 +515,8 @@ comma_after (name n) e = absurd cc
 comma_after (plain v) e = absurd cc
 comma_after (sized w v) e = absurd cc
 
-more_after : (es : List Expr) (u : Unit {0}) → Leads after_expr (each (λ e. marks (codes ",") ++ expr_tokens e) es ++ marks (codes "}"))
+more_after : (es : List Expr) (u : Unit {0})
+    → Leads after_expr (each (λ e. marks (codes ",") ++ expr_tokens e) es ++ marks (codes "}"))
 more_after [] u = refl
 more_after (e ∷ es) u = refl
 
@@ -514,7 +529,8 @@ cat_spelled : (d : ℕ) (x : Expr) → IsCat d x → expr_tokens x ≡ marks (co
 cat_spelled d (cat (parts e es)) v = refl
 cat_spelled d _ v = absurd v
 
-cat_form : (d : ℕ) (below : Reader Expr) → IsForm expr_tokens (Fits (suc d)) after_expr below → IsForm expr_tokens (IsCat (suc d)) any (cat_at below)
+cat_form : (d : ℕ) (below : Reader Expr) → IsForm expr_tokens (Fits (suc d)) after_expr below
+    → IsForm expr_tokens (IsCat (suc d)) any (cat_at below)
 unfolding cat_at
 cat_form d below held =
     same_form expr_tokens (IsCat (suc d)) (cat_spelled (suc d)) (λ x v. v) (λ x v. v)
@@ -618,8 +634,10 @@ no_deep (bit n i) v = v
 no_deep (part n h l) v = v
 no_deep (word n e) v = v
 
-deep_form : (d : ℕ) (below : Reader Expr) → IsForm expr_tokens (Fits d) after_expr below → IsForm expr_tokens (IsDeep d) after_expr (deeper d (either (is_mark (codes "(")) (group_at below) (cat_at below)))
-deep_form zero below held = same_form expr_tokens (IsDeep zero) (λ x v. refl) (λ x v. absurd v) no_deep (none_form expr_tokens after_expr)
+deep_form : (d : ℕ) (below : Reader Expr) → IsForm expr_tokens (Fits d) after_expr below
+    → IsForm expr_tokens (IsDeep d) after_expr (deeper d (either (is_mark (codes "(")) (group_at below) (cat_at below)))
+deep_form zero below held =
+    same_form expr_tokens (IsDeep zero) (λ x v. refl) (λ x v. absurd v) no_deep (none_form expr_tokens after_expr)
 deep_form (suc d) below held =
     either_form expr_tokens (IsGroup (suc d)) (IsCat (suc d)) (IsDeep (suc d)) (is_mark (codes "(")) after_expr (group_at below) (cat_at below)
     (group_deep (suc d)) (cat_deep (suc d)) (deep_split (suc d)) (group_leads (suc d)) (λ x front r w e m. leads_not (is_mark (codes "(")) (expr_tokens x) front r (cat_leads (suc d) x w) e)
@@ -691,7 +709,8 @@ flat_leads d (bit n i) v = absurd v
 flat_leads d (part n h l) v = absurd v
 flat_leads d (word n e) v = absurd v
 
-level_form : (d : ℕ) (below : Reader Expr) → IsForm expr_tokens (Fits d) after_expr below → IsForm expr_tokens (Fits (suc d)) after_expr (level_at d below)
+level_form : (d : ℕ) (below : Reader Expr) → IsForm expr_tokens (Fits d) after_expr below
+    → IsForm expr_tokens (Fits (suc d)) after_expr (level_at d below)
 unfolding level_at
 level_form d below held =
     either_form expr_tokens (IsNamed d) (IsFlat d) (Fits (suc d)) is_name_token after_expr (made (λ x. picked_of x.0 x.1) (both (one the_name) (λ n. pick_at d below)))
@@ -701,5 +720,6 @@ level_form d below held =
 
 pub expr_form : (d : ℕ) → IsForm expr_tokens (Fits d) after_expr (expr_at d)
 unfolding expr_at
-expr_form zero = same_form expr_tokens (Fits zero) (λ x v. refl) (λ x v. v) (λ x v. v) (none_form expr_tokens after_expr)
+expr_form zero =
+    same_form expr_tokens (Fits zero) (λ x v. refl) (λ x v. v) (λ x v. v) (none_form expr_tokens after_expr)
 expr_form (suc d) = level_form d (expr_at d) (expr_form d)

@@ -83,7 +83,9 @@ both_true false b e = absurd cc
 
 pub right_marks : (ms : List (List ℕ)) → are_marks ms ≡ true → AreTokens (map mark ms)
 right_marks [] e = tt
-right_marks (m ∷ ms) e = let k = both_true (is_mark_text m) (are_marks ms) e in (holds (is_mark_text m) k.0, right_marks ms k.1)
+right_marks (m ∷ ms) e =
+    let k = both_true (is_mark_text m) (are_marks ms) e in
+    (holds (is_mark_text m) k.0, right_marks ms k.1)
 
 -- ---- what may follow, and what stands at the front
 
@@ -103,12 +105,14 @@ abbrev pub Leads : (Token → Bool) → List Token → Type 0
 Leads c [] = ⊥
 Leads c (t ∷ ts) = c t ≡ true
 
-pub leads_passes : (c : Token → Bool) (a : List Token) (front r : List Placed) → Leads c a → text_of front ≡ a → next_passes c (front ++ r) ≡ true
+pub leads_passes : (c : Token → Bool) (a : List Token) (front r : List Placed) → Leads c a → text_of front ≡ a
+    → next_passes c (front ++ r) ≡ true
 leads_passes c [] front r l e = absurd l
 leads_passes c (x ∷ a) [] r l e = absurd cc
 leads_passes c (x ∷ a) (t ∷ front) r l e = let h : t.token ≡ x = cc e in rw h l
 
-pub leads_follow : (c : Token → Bool) (a : List Token) (front r : List Placed) → Leads c a → text_of front ≡ a → MayFollow c (front ++ r)
+pub leads_follow : (c : Token → Bool) (a : List Token) (front r : List Placed) → Leads c a → text_of front ≡ a
+    → MayFollow c (front ++ r)
 leads_follow c [] front r l e = absurd l
 leads_follow c (x ∷ a) [] r l e = absurd cc
 leads_follow c (x ∷ a) (t ∷ front) r l e = let h : t.token ≡ x = cc e in rw h l
@@ -120,7 +124,8 @@ not_true : (b : Bool) → not b ≡ true → b ≡ false
 not_true true e = absurd cc
 not_true false e = refl
 
-pub leads_not : (c : Token → Bool) (a : List Token) (front r : List Placed) → Leads (fails_at c) a → text_of front ≡ a → next_passes c (front ++ r) ≡ false
+pub leads_not : (c : Token → Bool) (a : List Token) (front r : List Placed) → Leads (fails_at c) a → text_of front ≡ a
+    → next_passes c (front ++ r) ≡ false
 leads_not c [] front r l e = absurd l
 leads_not c (x ∷ a) [] r l e = absurd cc
 leads_not c (x ∷ a) (t ∷ front) r l e = let h : t.token ≡ x = cc e in rw h (not_true (c x) l)
@@ -160,7 +165,8 @@ pub record At {X : Type 0} (s : X → List Token) (V : X → Type 0) (p : Reader
 
 -- of one value, before what may follow
 abbrev pub Again : {X : Type 0} → (X → List Token) → (Token → Bool) → Reader X → X → Type 0
-Again s f p x = (front r : List Placed) → AreTokens (s x) → text_of front ≡ s x → MayFollow f r → p (front ++ r) ≡ Ok (x, r)
+Again s f p x =
+    (front r : List Placed) → AreTokens (s x) → text_of front ≡ s x → MayFollow f r → p (front ++ r) ≡ Ok (x, r)
 
 pub record IsForm {X : Type 0} (s : X → List Token) (V : X → Type 0) (f : Token → Bool) (p : Reader X) : Type 0 where
   pub at : (ts : List Placed) → At s V p ts
@@ -184,7 +190,8 @@ ok_pair {X} x y r ts e =
     let p : (x, r) ≡ (y, ts) = cc e in
     (ap (λ (q : X × List Placed). q.0) p, ap (λ (q : X × List Placed). q.1) p)
 
-picked_ok : {X : Type 0} (o : Option X) (n : ℕ) (ts : List Placed) (x : X) (r : List Placed) → picked o n ts ≡ Ok (x, r) → (o ≡ Some x) × (ts ≡ r)
+picked_ok : {X : Type 0} (o : Option X) (n : ℕ) (ts : List Placed) (x : X) (r : List Placed) → picked o n ts ≡ Ok (x, r)
+    → (o ≡ Some x) × (ts ≡ r)
 picked_ok None n ts x r e = absurd cc
 picked_ok (Some y) n ts x r e = let k = ok_pair y x ts r e in (ap (λ z. Some z) k.0, k.1)
 
@@ -192,7 +199,9 @@ picked_err : {X : Type 0} (o : Option X) (n m : ℕ) (ts : List Placed) → pick
 picked_err None n m ts e = (refl, cc)
 picked_err (Some y) n m ts e = absurd cc
 
-one_found : {X : Type 0} (f : Token → Option X) (tok : X → Token) (V : X → Type 0) → ((t : Token) (x : X) → f t ≡ Some x → (t ≡ tok x) × V x) → (ts : List Placed) (x : X) (r : List Placed) → one f ts ≡ Ok (x, r) → Found (λ y. tok y ∷ []) V (one f) ts x r
+one_found : {X : Type 0} (f : Token → Option X) (tok : X → Token) (V : X → Type 0)
+    → ((t : Token) (x : X) → f t ≡ Some x → (t ≡ tok x) × V x) → (ts : List Placed) (x : X) (r : List Placed)
+    → one f ts ≡ Ok (x, r) → Found (λ y. tok y ∷ []) V (one f) ts x r
 one_found f tok V to [] x r e = absurd cc
 one_found f tok V to (t ∷ ts) x r e =
     let k = picked_ok (f t.token) t.left ts x r e in
@@ -200,20 +209,25 @@ one_found f tok V to (t ∷ ts) x r e =
     let is : f t.token ≡ Some x = k.0 in
     record { front = t ∷ []; parts = ap (λ us. t ∷ us) k.1; spelled = ap (λ u. u ∷ []) v.0; valid = v.1; alike = λ r' a. rw is refl }
 
-one_fails : {X : Type 0} (f : Token → Option X) (s : X → List Token) (V : X → Type 0) (ts : List Placed) (n : ℕ) → one f ts ≡ Err n → Failed s V (one f) ts n
-one_fails f s V [] n e = record { before = []; after = []; parts = refl; place = cc; viable = inl refl; dead = λ r' a. elim r' as (λ us. Alike [] us → one f us ≡ Err n) [ [] ↦ λ _. e | u ∷ us ↦ λ h. absurd h ] a }
+one_fails : {X : Type 0} (f : Token → Option X) (s : X → List Token) (V : X → Type 0) (ts : List Placed) (n : ℕ)
+    → one f ts ≡ Err n → Failed s V (one f) ts n
+one_fails f s V [] n e =
+    record { before = []; after = []; parts = refl; place = cc; viable = inl refl; dead = λ r' a. elim r' as (λ us. Alike [] us → one f us ≡ Err n) [ [] ↦ λ _. e | u ∷ us ↦ λ h. absurd h ] a }
 one_fails f s V (t ∷ ts) n e =
     let k = picked_err (f t.token) t.left n ts e in
     let is : f t.token ≡ None = k.0 in
     let at : t.left ≡ n = k.1 in
     record { before = []; after = t ∷ ts; parts = refl; place = sym k.1; viable = inl refl; dead = λ r' a. elim r' as (λ us. Alike (t ∷ ts) us → one f us ≡ Err n) [ [] ↦ λ h. absurd h | u ∷ us ↦ λ h. subst (λ (v : Placed). picked (f v.token) v.left us ≡ Err n) h (rw is (ap Err at)) ] a }
 
-one_again : {X : Type 0} (f : Token → Option X) (tok : X → Token) (x : X) → f (tok x) ≡ Some x → Again (λ y. tok y ∷ []) any (one f) x
+one_again : {X : Type 0} (f : Token → Option X) (tok : X → Token) (x : X) → f (tok x) ≡ Some x
+    → Again (λ y. tok y ∷ []) any (one f) x
 one_again f tok x is [] r right e m = absurd cc
 one_again f tok x is (t ∷ []) r right e m = let h : t.token ≡ tok x = cc e in rw (h, is) refl
 one_again f tok x is (t ∷ u ∷ front) r right e m = absurd cc
 
-pub one_form : {X : Type 0} (f : Token → Option X) (tok : X → Token) (V : X → Type 0) → ((t : Token) (x : X) → f t ≡ Some x → (t ≡ tok x) × V x) → ((x : X) → V x → f (tok x) ≡ Some x) → IsForm (λ y. tok y ∷ []) V any (one f)
+pub one_form : {X : Type 0} (f : Token → Option X) (tok : X → Token) (V : X → Type 0)
+    → ((t : Token) (x : X) → f t ≡ Some x → (t ≡ tok x) × V x) → ((x : X) → V x → f (tok x) ≡ Some x)
+    → IsForm (λ y. tok y ∷ []) V any (one f)
 one_form f tok V to from = record {
   at = λ ts. record { found = λ x r e. one_found f tok V to ts x r e; fails = λ n right e. one_fails f (λ y. tok y ∷ []) V ts n e };
   again = λ x v. one_again f tok x (from x v);
@@ -221,7 +235,8 @@ one_form f tok V to from = record {
 
 -- ---- one after the other
 
-continued_ok : {X Y : Type 0} (o : Result (X × List Placed) ℕ) (k : X → Reader Y) (x : X) (y : Y) (r : List Placed) → continued o k ≡ done (x, y) r → (m : List Placed) × (o ≡ Ok (x, m)) × (k x m ≡ Ok (y, r))
+continued_ok : {X Y : Type 0} (o : Result (X × List Placed) ℕ) (k : X → Reader Y) (x : X) (y : Y) (r : List Placed)
+    → continued o k ≡ done (x, y) r → (m : List Placed) × (o ≡ Ok (x, m)) × (k x m ≡ Ok (y, r))
 continued_ok {X} {Y} (Ok a) k x y r e =
     elim (k a.0 a.1) as (λ v. k a.0 a.1 ≡ v → paired a.0 v ≡ done (x, y) r → (m : List Placed) × (Ok a ≡ done x m) × (k x m ≡ Ok (y, r))) [
       | Ok b ↦ λ is h.
@@ -233,7 +248,8 @@ continued_ok {X} {Y} (Ok a) k x y r e =
     ] refl e
 continued_ok (Err n) k x y r e = absurd cc
 
-continued_err : {X Y : Type 0} (o : Result (X × List Placed) ℕ) (k : X → Reader Y) (n : ℕ) → continued o k ≡ Err n → (o ≡ Err n) ⊎ ((x : X) × (m : List Placed) × (o ≡ Ok (x, m)) × (k x m ≡ Err n))
+continued_err : {X Y : Type 0} (o : Result (X × List Placed) ℕ) (k : X → Reader Y) (n : ℕ) → continued o k ≡ Err n
+    → (o ≡ Err n) ⊎ ((x : X) × (m : List Placed) × (o ≡ Ok (x, m)) × (k x m ≡ Err n))
 continued_err {X} {Y} (Ok a) k n e =
     elim (k a.0 a.1) as (λ v. k a.0 a.1 ≡ v → paired a.0 v ≡ Err n → (done a.0 a.1 ≡ Err n) ⊎ ((x : X) × (m : List Placed) × (done a.0 a.1 ≡ Ok (x, m)) × (k x m ≡ Err n))) [
       | Ok b ↦ λ is h. absurd cc
@@ -248,8 +264,10 @@ s2 s t x = s x.0 ++ t x.0 x.1
 abbrev pub V2 : {X Y : Type 0} → (X → Type 0) → (X → Y → Type 0) → X × Y → Type 0
 V2 V W x = V x.0 × W x.0 x.1
 
-pub both_at : {X Y : Type 0} (s : X → List Token) (V : X → Type 0) (t : X → Y → List Token) (W : X → Y → Type 0) (p : Reader X) (k : X → Reader Y) (ts : List Placed)
-    → ((x : X) → V x → AreTokens (s x) → Example (t x) (W x)) → At s V p ts → ((x : X) (r : List Placed) → p ts ≡ Ok (x, r) → At (t x) (W x) (k x) r) → At (s2 s t) (V2 V W) (both p k) ts
+pub both_at : {X Y : Type 0} (s : X → List Token) (V : X → Type 0) (t : X → Y → List Token) (W : X → Y → Type 0)
+    (p : Reader X) (k : X → Reader Y) (ts : List Placed)
+    → ((x : X) → V x → AreTokens (s x) → Example (t x) (W x)) → At s V p ts
+    → ((x : X) (r : List Placed) → p ts ≡ Ok (x, r) → At (t x) (W x) (k x) r) → At (s2 s t) (V2 V W) (both p k) ts
 unfolding both
 both_at s V t W p k ts example one then = record {
   found = λ xy r e.
@@ -262,7 +280,8 @@ both_at s V t W p k ts example one then = record {
         spelled = text_append a.front b.front ∙ cc (a.spelled, b.spelled);
         valid = (a.valid, b.valid);
         alike = λ r' alike.
-            let near : Alike c.0 (b.front ++ r') = subst (λ us. Alike us (b.front ++ r')) (sym b.parts) (alike_behind b.front r r' alike) in
+            let near : Alike c.0 (b.front ++ r') =
+            subst (λ us. Alike us (b.front ++ r')) (sym b.parts) (alike_behind b.front r r' alike) in
             let again : p (a.front ++ (b.front ++ r')) ≡ Ok (xy.0, b.front ++ r') = a.alike (b.front ++ r') near in
             rw (append_assoc a.front b.front r', again, b.alike r' alike) refl;
       };
@@ -277,7 +296,8 @@ both_at s V t W p k ts example one then = record {
           viable = elim a.viable [
             | inl none ↦ inl none
             | inr c ↦ inr (
-                let total : AreTokens (s c.value) = subst AreTokens c.parts (right_append (text_of a.before) c.rest (right_front (text_of a.before) (text_of a.after) (subst AreTokens (ap text_of a.parts ∙ text_append a.before a.after) right)) c.right) in
+                let total : AreTokens (s c.value) =
+                subst AreTokens c.parts (right_append (text_of a.before) c.rest (right_front (text_of a.before) (text_of a.after) (subst AreTokens (ap text_of a.parts ∙ text_append a.before a.after) right)) c.right) in
                 let ex = example c.value c.valid total in
                 record {
                   value = (c.value, ex.value);
@@ -293,7 +313,8 @@ both_at s V t W p k ts example one then = record {
         let x = c.0 in
         let m = c.1 in
         let a = one.found x m c.2 in
-        let split : AreTokens (text_of a.front ++ text_of m) = subst AreTokens (ap text_of a.parts ∙ text_append a.front m) right in
+        let split : AreTokens (text_of a.front ++ text_of m) =
+        subst AreTokens (ap text_of a.parts ∙ text_append a.front m) right in
         let right_a : AreTokens (s x) = subst AreTokens a.spelled (right_front (text_of a.front) (text_of m) split) in
         let b = (then x m c.2).fails n (right_rest (text_of a.front) (text_of m) split) c.3 in
         record {
@@ -314,25 +335,33 @@ both_at s V t W p k ts example one then = record {
                 parts = ap (λ us. us ++ ends.rest) (text_append a.front b.before) ∙ append_assoc (text_of a.front) (text_of b.before) ends.rest ∙ cc (a.spelled, ends.parts);
               });
           dead = λ after' alike.
-              let near : Alike m (b.before ++ after') = subst (λ us. Alike us (b.before ++ after')) (sym b.parts) (alike_behind b.before b.after after' alike) in
-              let again : p (a.front ++ (b.before ++ after')) ≡ Ok (x, b.before ++ after') = a.alike (b.before ++ after') near in
+              let near : Alike m (b.before ++ after') =
+              subst (λ us. Alike us (b.before ++ after')) (sym b.parts) (alike_behind b.before b.after after' alike) in
+              let again : p (a.front ++ (b.before ++ after')) ≡ Ok (x, b.before ++ after') =
+              a.alike (b.before ++ after') near in
               rw (append_assoc a.front b.before after', again, b.dead after' alike) refl;
         }
   ];
 }
 
-pub both_again : {X Y : Type 0} (s : X → List Token) (t : X → Y → List Token) (g f : Token → Bool) (p : Reader X) (k : X → Reader Y) (x : X) (y : Y)
-    → Again s g p x → Again (t x) f (k x) y → ((front r : List Placed) → text_of front ≡ t x y → MayFollow f r → MayFollow g (front ++ r)) → Again (s2 s t) f (both p k) (x, y)
+pub both_again : {X Y : Type 0} (s : X → List Token) (t : X → Y → List Token) (g f : Token → Bool) (p : Reader X)
+    (k : X → Reader Y) (x : X) (y : Y)
+    → Again s g p x → Again (t x) f (k x) y
+    → ((front r : List Placed) → text_of front ≡ t x y → MayFollow f r → MayFollow g (front ++ r))
+    → Again (s2 s t) f (both p k) (x, y)
 unfolding both
 both_again s t g f p k x y one then follows front r right e m =
     let c = cut front (s x) (t x y) e in
-    let a : p (c.fore ++ (c.hind ++ r)) ≡ Ok (x, c.hind ++ r) = one c.fore (c.hind ++ r) (right_front (s x) (t x y) right) c.first (follows c.hind r c.second m) in
+    let a : p (c.fore ++ (c.hind ++ r)) ≡ Ok (x, c.hind ++ r) =
+    one c.fore (c.hind ++ r) (right_front (s x) (t x y) right) c.first (follows c.hind r c.second m) in
     let b = then c.hind r (right_rest (s x) (t x y) right) c.second m in
     rw (c.parts, append_assoc c.fore c.hind r, a, b) refl
 
-pub both_form : {X Y : Type 0} (s : X → List Token) (V : X → Type 0) (t : X → Y → List Token) (W : X → Y → Type 0) (g f : Token → Bool) (p : Reader X) (k : X → Reader Y)
+pub both_form : {X Y : Type 0} (s : X → List Token) (V : X → Type 0) (t : X → Y → List Token) (W : X → Y → Type 0)
+    (g f : Token → Bool) (p : Reader X) (k : X → Reader Y)
     → IsForm s V g p → ((x : X) → IsForm (t x) (W x) f (k x)) → ((x : X) → V x → AreTokens (s x) → Example (t x) (W x))
-    → ((x : X) (y : Y) (front r : List Placed) → V x → W x y → text_of front ≡ t x y → MayFollow f r → MayFollow g (front ++ r)) → IsForm (s2 s t) (V2 V W) f (both p k)
+    → ((x : X) (y : Y) (front r : List Placed) → V x → W x y → text_of front ≡ t x y → MayFollow f r → MayFollow g (front ++ r))
+    → IsForm (s2 s t) (V2 V W) f (both p k)
 both_form s V t W g f p k one then example follows = record {
   at = λ ts. both_at s V t W p k ts example (one.at ts) (λ x r e. (then x).at r);
   again = λ xy v. both_again s t g f p k xy.0 xy.1 (one.again xy.0 v.0) ((then xy.0).again xy.1 v.1) (λ front r e m. follows xy.0 xy.1 front r v.0 v.1 e m);
@@ -340,7 +369,8 @@ both_form s V t W g f p k one then example follows = record {
 
 -- ---- a value made of another
 
-made_ok : {X Y : Type 0} (f : X → Y) (o : Result (X × List Placed) ℕ) (y : Y) (r : List Placed) → made_of f o ≡ done y r → (x : X) × (o ≡ Ok (x, r)) × (f x ≡ y)
+made_ok : {X Y : Type 0} (f : X → Y) (o : Result (X × List Placed) ℕ) (y : Y) (r : List Placed) → made_of f o ≡ done y r
+    → (x : X) × (o ≡ Ok (x, r)) × (f x ≡ y)
 made_ok f (Ok a) y r e = let k = ok_pair (f a.0) y a.1 r e in (a.0, ap (λ w. done a.0 w) k.1, k.0)
 made_ok f (Err n) y r e = absurd cc
 
@@ -348,7 +378,8 @@ made_err : {X Y : Type 0} (f : X → Y) (o : Result (X × List Placed) ℕ) (n :
 made_err f (Ok a) n e = absurd cc
 made_err f (Err m) n e = cc
 
-pub made_at : {X Y : Type 0} (s : X → List Token) (V : X → Type 0) (s' : Y → List Token) (V' : Y → Type 0) (f : X → Y) (p : Reader X) (ts : List Placed)
+pub made_at : {X Y : Type 0} (s : X → List Token) (V : X → Type 0) (s' : Y → List Token) (V' : Y → Type 0) (f : X → Y)
+    (p : Reader X) (ts : List Placed)
     → ((x : X) → V x → s' (f x) ≡ s x) → ((x : X) → V x → V' (f x)) → At s V p ts → At s' V' (made f p) ts
 unfolding made
 made_at s V s' V' f p ts spelled to one = record {
@@ -377,8 +408,10 @@ made_at s V s' V' f p ts spelled to one = record {
       };
 }
 
-pub made_form : {X Y : Type 0} (s : X → List Token) (V : X → Type 0) (s' : Y → List Token) (V' : Y → Type 0) (g : Token → Bool) (f : X → Y) (p : Reader X)
-    → ((x : X) → V x → s' (f x) ≡ s x) → ((x : X) → V x → V' (f x)) → ((y : Y) → V' y → (x : X) × V x × (f x ≡ y)) → IsForm s V g p → IsForm s' V' g (made f p)
+pub made_form : {X Y : Type 0} (s : X → List Token) (V : X → Type 0) (s' : Y → List Token) (V' : Y → Type 0)
+    (g : Token → Bool) (f : X → Y) (p : Reader X)
+    → ((x : X) → V x → s' (f x) ≡ s x) → ((x : X) → V x → V' (f x)) → ((y : Y) → V' y → (x : X) × V x × (f x ≡ y))
+    → IsForm s V g p → IsForm s' V' g (made f p)
 unfolding made
 made_form s V s' V' g f p spelled to from one = record {
   at = λ ts. made_at s V s' V' f p ts spelled to (one.at ts);
@@ -394,12 +427,15 @@ made_form s V s' V' g f p spelled to from one = record {
 abbrev Chosen : {X : Type 0} → Bool → Reader X → Reader X → List Placed → Result (X × List Placed) ℕ → Type 0
 Chosen b p q ts o = ((b ≡ true) × (p ts ≡ o)) ⊎ ((b ≡ false) × (q ts ≡ o))
 
-chosen : {X : Type 0} (b : Bool) (p q : Reader X) (ts : List Placed) (o : Result (X × List Placed) ℕ) → cond b (p ts) (q ts) ≡ o → Chosen b p q ts o
+chosen : {X : Type 0} (b : Bool) (p q : Reader X) (ts : List Placed) (o : Result (X × List Placed) ℕ)
+    → cond b (p ts) (q ts) ≡ o → Chosen b p q ts o
 chosen true p q ts o e = inl (refl, e)
 chosen false p q ts o e = inr (refl, e)
 
-either_part : {X : Type 0} (s : X → List Token) (V U : X → Type 0) (c : Token → Bool) (p q w : Reader X) (ts : List Placed)
-    → ((x : X) → V x → U x) → ((us : List Placed) → next_passes c us ≡ next_passes c ts → w us ≡ p us) → At s V p ts → At s U w ts
+either_part : {X : Type 0} (s : X → List Token) (V U : X → Type 0) (c : Token → Bool) (p q w : Reader X)
+    (ts : List Placed)
+    → ((x : X) → V x → U x) → ((us : List Placed) → next_passes c us ≡ next_passes c ts → w us ≡ p us) → At s V p ts
+    → At s U w ts
 either_part s V U c p q w ts to same one =
     record {
       found = λ x r e.
@@ -426,8 +462,10 @@ either_part s V U c p q w ts to same one =
           };
     }
 
-pub either_at : {X : Type 0} (s : X → List Token) (V W U : X → Type 0) (c : Token → Bool) (p q : Reader X) (ts : List Placed)
-    → ((x : X) → V x → U x) → ((x : X) → W x → U x) → (next_passes c ts ≡ true → At s V p ts) → (next_passes c ts ≡ false → At s W q ts) → At s U (either c p q) ts
+pub either_at : {X : Type 0} (s : X → List Token) (V W U : X → Type 0) (c : Token → Bool) (p q : Reader X)
+    (ts : List Placed)
+    → ((x : X) → V x → U x) → ((x : X) → W x → U x) → (next_passes c ts ≡ true → At s V p ts)
+    → (next_passes c ts ≡ false → At s W q ts) → At s U (either c p q) ts
 unfolding either
 either_at {X} s V W U c p q ts vu wu one other =
     elim (next_passes c ts) as (λ b. next_passes c ts ≡ b → At s U (either c p q) ts) [
@@ -437,7 +475,8 @@ either_at {X} s V W U c p q ts vu wu one other =
 
 pub either_form : {X : Type 0} (s : X → List Token) (V W U : X → Type 0) (c f : Token → Bool) (p q : Reader X)
     → ((x : X) → V x → U x) → ((x : X) → W x → U x) → ((x : X) → U x → V x ⊎ W x) → ((x : X) → V x → Leads c (s x))
-    → ((x : X) (front r : List Placed) → W x → text_of front ≡ s x → MayFollow f r → next_passes c (front ++ r) ≡ false) → IsForm s V f p → IsForm s W f q → IsForm s U f (either c p q)
+    → ((x : X) (front r : List Placed) → W x → text_of front ≡ s x → MayFollow f r → next_passes c (front ++ r) ≡ false)
+    → IsForm s V f p → IsForm s W f q → IsForm s U f (either c p q)
 unfolding either
 either_form s V W U c f p q vu wu split leads apart one other = record {
   at = λ ts. either_at s V W U c p q ts vu wu (λ is. one.at ts) (λ is. other.at ts);
@@ -449,7 +488,8 @@ either_form s V W U c f p q vu wu split leads apart one other = record {
 
 -- ---- nothing, and none
 
-pub nothing_form : {X : Type 0} (s : X → List Token) (f : Token → Bool) (x : X) → s x ≡ [] → IsForm s (λ y. y ≡ x) f (nothing x)
+pub nothing_form : {X : Type 0} (s : X → List Token) (f : Token → Bool) (x : X) → s x ≡ []
+    → IsForm s (λ y. y ≡ x) f (nothing x)
 unfolding nothing
 nothing_form s f x empty = record {
   at = λ ts. record {
@@ -472,8 +512,10 @@ none_form s f = record {
 }
 
 -- a stronger condition on what follows
-pub narrow_form : {X : Type 0} (s : X → List Token) (V : X → Type 0) (f : Token → Bool) (p : Reader X) → IsForm s V any p → IsForm s V f p
-narrow_form s V f p one = record { at = one.at; again = λ x v front r right e m. one.again x v front r right e (any_follows r) }
+pub narrow_form : {X : Type 0} (s : X → List Token) (V : X → Type 0) (f : Token → Bool) (p : Reader X)
+    → IsForm s V any p → IsForm s V f p
+narrow_form s V f p one =
+    record { at = one.at; again = λ x v front r right e m. one.again x v front r right e (any_follows r) }
 
 -- ---- as many as there are, and what closes them
 
@@ -489,13 +531,15 @@ nonempty c [] front l e = absurd l
 nonempty c (x ∷ a) [] l e = absurd cc
 nonempty c (x ∷ a) (t ∷ front) l e = omega arith
 
-shorter : {X : Type 0} (s : X → List Token) (V : X → Type 0) (c : Token → Bool) (p : Reader X) (ts : List Placed) (x : X) (r : List Placed) → Leading s V c → At s V p ts → p ts ≡ Ok (x, r) → length r < length ts
+shorter : {X : Type 0} (s : X → List Token) (V : X → Type 0) (c : Token → Bool) (p : Reader X) (ts : List Placed)
+    (x : X) (r : List Placed) → Leading s V c → At s V p ts → p ts ≡ Ok (x, r) → length r < length ts
 shorter s V c p ts x r leads at e =
     let a = at.found x r e in
     let n = nonempty c (s x) a.front (leads x a.valid) a.spelled in
     omega (arith, ap (λ (us : List Placed). length us) a.parts, length-append a.front r)
 
-both_same : {X Y : Type 0} (p : Reader X) (k l : X → Reader Y) (ts : List Placed) → ((x : X) (r : List Placed) → p ts ≡ Ok (x, r) → k x r ≡ l x r) → both p k ts ≡ both p l ts
+both_same : {X Y : Type 0} (p : Reader X) (k l : X → Reader Y) (ts : List Placed)
+    → ((x : X) (r : List Placed) → p ts ≡ Ok (x, r) → k x r ≡ l x r) → both p k ts ≡ both p l ts
 unfolding both
 both_same p k l ts same =
     elim (p ts) as (λ o. p ts ≡ o → continued o k ≡ continued o l) [
@@ -503,11 +547,14 @@ both_same p k l ts same =
       | Err n ↦ λ is. refl
     ] refl
 
-step_same : {X Y : Type 0} (c : Token → Bool) (p : Reader X) (q : Reader Y) (m n : Reader (List X × Y)) (ts : List Placed) → ((x : X) (r : List Placed) → p ts ≡ Ok (x, r) → m r ≡ n r) → step_of c p q m ts ≡ step_of c p q n ts
+step_same : {X Y : Type 0} (c : Token → Bool) (p : Reader X) (q : Reader Y) (m n : Reader (List X × Y))
+    (ts : List Placed) → ((x : X) (r : List Placed) → p ts ≡ Ok (x, r) → m r ≡ n r)
+    → step_of c p q m ts ≡ step_of c p q n ts
 unfolding either made
 step_same c p q m n ts same = let h = both_same p (λ x. m) (λ x. n) ts same in rw h refl
 
-fuel : {X Y : Type 0} (s : X → List Token) (V : X → Type 0) (c : Token → Bool) (p : Reader X) (q : Reader Y) → Leading s V c → ((ts : List Placed) → At s V p ts)
+fuel : {X Y : Type 0} (s : X → List Token) (V : X → Type 0) (c : Token → Bool) (p : Reader X) (q : Reader Y)
+    → Leading s V c → ((ts : List Placed) → At s V p ts)
     → (m n : ℕ) (ts : List Placed) → length ts < m → length ts < n → until_within m c p q ts ≡ until_within n c p q ts
 unfolding until_within
 fuel s V c p q leads at zero n ts a b = absurd (omega arith)
@@ -516,7 +563,8 @@ fuel s V c p q leads at (suc m) (suc n) ts a b = step_same c p q (until_within m
     let l = shorter s V c p ts x r leads (at ts) e in
     fuel s V c p q leads at m n r (omega arith) (omega arith))
 
-pub until_step : {X Y : Type 0} (s : X → List Token) (V : X → Type 0) (c : Token → Bool) (p : Reader X) (q : Reader Y) → Leading s V c → ((ts : List Placed) → At s V p ts)
+pub until_step : {X Y : Type 0} (s : X → List Token) (V : X → Type 0) (c : Token → Bool) (p : Reader X) (q : Reader Y)
+    → Leading s V c → ((ts : List Placed) → At s V p ts)
     → (ts : List Placed) → until c p q ts ≡ step_of c p q (until c p q) ts
 unfolding until until_within
 until_step s V c p q leads at ts = step_same c p q (until_within (length ts) c p q) (until c p q) ts (λ x r e.
@@ -524,7 +572,8 @@ until_step s V c p q leads at ts = step_same c p q (until_within (length ts) c p
     fuel s V c p q leads at (length ts) (suc (length r)) r l (omega arith))
 
 -- a reader that is another one at each list
-same_at : {X : Type 0} (s : X → List Token) (V : X → Type 0) (p w : Reader X) (ts : List Placed) → ((us : List Placed) → w us ≡ p us) → At s V p ts → At s V w ts
+same_at : {X : Type 0} (s : X → List Token) (V : X → Type 0) (p w : Reader X) (ts : List Placed)
+    → ((us : List Placed) → w us ≡ p us) → At s V p ts → At s V w ts
 same_at s V p w ts same one = either_part s V V (λ t. true) p p w ts (λ x v. v) (λ us e. same us) one
 
 abbrev pub s_until : {X Y : Type 0} → (X → List Token) → (Y → List Token) → List X × Y → List Token
@@ -539,12 +588,14 @@ cons_of x = (x.0 ∷ x.1.0, x.1.1)
 abbrev nil_of : {X Y : Type 0} → Y → List X × Y
 nil_of y = ([], y)
 
-until_at : {X Y : Type 0} (s : X → List Token) (V : X → Type 0) (t : Y → List Token) (W : Y → Type 0) (c : Token → Bool) (p : Reader X) (q : Reader Y)
+until_at : {X Y : Type 0} (s : X → List Token) (V : X → Type 0) (t : Y → List Token) (W : Y → Type 0) (c : Token → Bool)
+    (p : Reader X) (q : Reader Y)
     → Leading s V c → ((ts : List Placed) → At s V p ts) → ((ts : List Placed) → At t W q ts) → Example t W
     → (n : ℕ) (ts : List Placed) → length ts < n → At (s_until s t) (V_until V W) (until c p q) ts
 until_at s V t W c p q leads at last example zero ts l = absurd (omega arith)
 until_at {X} {Y} s V t W c p q leads at last example (suc n) ts l =
-    let rest : Example (s_until s t) (V_until V W) = record { value = ([], example.value); valid = (tt, example.valid); right = example.right } in
+    let rest : Example (s_until s t) (V_until V W) =
+    record { value = ([], example.value); valid = (tt, example.valid); right = example.right } in
     let more : At (s_until s t) (V_until V W) (made cons_of (both p (λ x. until c p q))) ts =
     made_at (s2 s (λ x. s_until s t)) (V2 V (λ x. V_until V W)) (s_until s t) (V_until V W) cons_of (both p (λ x. until c p q)) ts
     (λ x v. append_assoc (s x.0) (each s x.1.0) (t x.1.1)) (λ x v. ((v.0, v.1.0), v.1.1))
@@ -558,12 +609,15 @@ until_at {X} {Y} s V t W c p q leads at last example (suc n) ts l =
     same_at (s_until s t) (V_until V W) (step_of c p q (until c p q)) (until c p q) ts (until_step s V c p q leads at)
     (either_at (s_until s t) (V_until V W) (V_until V W) (V_until V W) c (made cons_of (both p (λ x. until c p q))) (made nil_of q) ts (λ x v. v) (λ x v. v) (λ is. more) (λ is. none))
 
-leads_on : (c g : Token → Bool) (a b d : List Token) → ((k : Token) → c k ≡ true → g k ≡ true) → Leads c a → Leads g ((a ++ b) ++ d)
+leads_on : (c g : Token → Bool) (a b d : List Token) → ((k : Token) → c k ≡ true → g k ≡ true) → Leads c a
+    → Leads g ((a ++ b) ++ d)
 leads_on c g [] b d goes l = absurd l
 leads_on c g (x ∷ a) b d goes l = goes x l
 
-until_again : {X Y : Type 0} (s : X → List Token) (V : X → Type 0) (t : Y → List Token) (W : Y → Type 0) (c g f : Token → Bool) (p : Reader X) (q : Reader Y)
-    → Leading s V c → Leading t W (fails_at c) → Leading t W g → ((k : Token) → c k ≡ true → g k ≡ true) → IsForm s V g p → IsForm t W f q
+until_again : {X Y : Type 0} (s : X → List Token) (V : X → Type 0) (t : Y → List Token) (W : Y → Type 0)
+    (c g f : Token → Bool) (p : Reader X) (q : Reader Y)
+    → Leading s V c → Leading t W (fails_at c) → Leading t W g → ((k : Token) → c k ≡ true → g k ≡ true)
+    → IsForm s V g p → IsForm t W f q
     → (xs : List X) (y : Y) → AllByRecursion V xs → W y → Again (s_until s t) f (until c p q) (xs, y)
 unfolding either made both
 until_again s V t W c g f p q leads ends follows goes one last [] y vs w front r right e m =
@@ -573,17 +627,22 @@ until_again s V t W c g f p q leads ends follows goes one last (x ∷ xs) y vs w
     let regroup = append_assoc (s x) (each s xs) (t y) in
     let k = cut front (s x) (each s xs ++ t y) (e ∙ regroup) in
     let right' : AreTokens (s x ++ (each s xs ++ t y)) = subst AreTokens regroup right in
-    let rest : until c p q (k.hind ++ r) ≡ Ok ((xs, y), r) = until_again s V t W c g f p q leads ends follows goes one last xs y vs.1 w k.hind r (right_rest (s x) (each s xs ++ t y) right') k.second m in
+    let rest : until c p q (k.hind ++ r) ≡ Ok ((xs, y), r) =
+    until_again s V t W c g f p q leads ends follows goes one last xs y vs.1 w k.hind r (right_rest (s x) (each s xs ++ t y) right') k.second m in
     let follow : MayFollow g (k.hind ++ r) = elim xs as (λ zs. AllByRecursion V zs → text_of k.hind ≡ each s zs ++ t y → MayFollow g (k.hind ++ r)) [
       | [] ↦ λ _ h. leads_follow g (t y) k.hind r (follows y w) h
       | z ∷ zs ↦ λ u h. leads_follow g ((s z ++ each s zs) ++ t y) k.hind r (leads_on c g (s z) (each s zs) (t y) goes (leads z u.0)) h
     ] vs.1 k.second in
-    let here : p (k.fore ++ (k.hind ++ r)) ≡ Ok (x, k.hind ++ r) = one.again x vs.0 k.fore (k.hind ++ r) (right_front (s x) (each s xs ++ t y) right') k.first follow in
-    let h : next_passes c (k.fore ++ (k.hind ++ r)) ≡ true = leads_passes c (s x) k.fore (k.hind ++ r) (leads x vs.0) k.first in
+    let here : p (k.fore ++ (k.hind ++ r)) ≡ Ok (x, k.hind ++ r) =
+    one.again x vs.0 k.fore (k.hind ++ r) (right_front (s x) (each s xs ++ t y) right') k.first follow in
+    let h : next_passes c (k.fore ++ (k.hind ++ r)) ≡ true =
+    leads_passes c (s x) k.fore (k.hind ++ r) (leads x vs.0) k.first in
     until_step s V c p q leads one.at (front ++ r) ∙ rw (k.parts, append_assoc k.fore k.hind r, h, here, rest) refl
 
-pub until_form : {X Y : Type 0} (s : X → List Token) (V : X → Type 0) (t : Y → List Token) (W : Y → Type 0) (c g f : Token → Bool) (p : Reader X) (q : Reader Y)
-    → Leading s V c → Leading t W (fails_at c) → Leading t W g → ((k : Token) → c k ≡ true → g k ≡ true) → Example t W → IsForm s V g p → IsForm t W f q
+pub until_form : {X Y : Type 0} (s : X → List Token) (V : X → Type 0) (t : Y → List Token) (W : Y → Type 0)
+    (c g f : Token → Bool) (p : Reader X) (q : Reader Y)
+    → Leading s V c → Leading t W (fails_at c) → Leading t W g → ((k : Token) → c k ≡ true → g k ≡ true) → Example t W
+    → IsForm s V g p → IsForm t W f q
     → IsForm (s_until s t) (V_until V W) f (until c p q)
 until_form s V t W c g f p q leads ends follows goes example one last = record {
   at = λ ts. until_at s V t W c p q leads one.at last.at example (suc (length ts)) ts (omega arith);

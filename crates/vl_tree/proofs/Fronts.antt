@@ -12,7 +12,8 @@ pub name_parts : (bs : List ℕ) → 0 < length bs → is_name bs ≡ (is_letter
 name_parts [] h = absurd (omega arith)
 name_parts (b ∷ bs) h = refl
 
-pub cat_parts : (d : ℕ) (es : List Expr) → 0 < length es → plain_expr d (cat (reads es)) ≡ (ltb 0 d && plain_exprs (d - 1) (reads es))
+pub cat_parts : (d : ℕ) (es : List Expr) → 0 < length es
+    → plain_expr d (cat (reads es)) ≡ (ltb 0 d && plain_exprs (d - 1) (reads es))
 cat_parts d [] h = absurd (omega arith)
 cat_parts d (e ∷ es) h = grind arith
 
@@ -20,6 +21,7 @@ pub cat_none : (d : ℕ) (es : List Expr) → length es ≡ 0 → plain_expr d (
 cat_none d [] h = refl
 cat_none d (e ∷ es) h = absurd (omega arith)
 
-pub cat_behind : (d : ℕ) (es : List Expr) → 0 < length es → 0 < d → plain_expr d (cat (reads es)) ≡ plain_exprs (d - 1) (reads es)
+pub cat_behind : (d : ℕ) (es : List Expr) → 0 < length es → 0 < d
+    → plain_expr d (cat (reads es)) ≡ plain_exprs (d - 1) (reads es)
 cat_behind d [] h k = absurd (omega arith)
 cat_behind d (e ∷ es) h k = let t : ltb 0 d ≡ true = lt-ltb 0 d k in rw t refl

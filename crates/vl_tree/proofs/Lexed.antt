@@ -40,7 +40,8 @@ abbrev RightPiece : Option Piece → Type 0
 RightPiece None = Unit {0}
 RightPiece (Some p) = RightToken p.token
 
-one_right : (b : Bool) (x y : Option Piece) → (b ≡ true → RightPiece x) → (b ≡ false → RightPiece y) → RightPiece (cond b x y)
+one_right : (b : Bool) (x y : Option Piece) → (b ≡ true → RightPiece x) → (b ≡ false → RightPiece y)
+    → RightPiece (cond b x y)
 one_right true x y f g = f refl
 one_right false x y f g = g refl
 
@@ -63,8 +64,10 @@ not_false false e = refl
 width_right : (r : List ℕ) → is_width r ≡ true → (0 < digits_value 10 r) × (digits_value 10 r ≤ 64)
 width_right [] e = absurd cc
 width_right (d ∷ ds) e =
-    let k4 = and_true (all_digits 10 (d ∷ ds) && not (next_is 48 (d ∷ ds)) && ltb 0 (length (d ∷ ds)) && ltb (length (d ∷ ds)) 3) (leb (digits_value 10 (d ∷ ds)) 64) e in
-    let k3 = and_true (all_digits 10 (d ∷ ds) && not (next_is 48 (d ∷ ds)) && ltb 0 (length (d ∷ ds))) (ltb (length (d ∷ ds)) 3) k4.0 in
+    let k4 =
+    and_true (all_digits 10 (d ∷ ds) && not (next_is 48 (d ∷ ds)) && ltb 0 (length (d ∷ ds)) && ltb (length (d ∷ ds)) 3) (leb (digits_value 10 (d ∷ ds)) 64) e in
+    let k3 =
+    and_true (all_digits 10 (d ∷ ds) && not (next_is 48 (d ∷ ds)) && ltb 0 (length (d ∷ ds))) (ltb (length (d ∷ ds)) 3) k4.0 in
     let k2 = and_true (all_digits 10 (d ∷ ds) && not (next_is 48 (d ∷ ds))) (ltb 0 (length (d ∷ ds))) k3.0 in
     let k1 = and_true (all_digits 10 (d ∷ ds)) (not (next_is 48 (d ∷ ds))) k2.0 in
     let all = digits_all 10 (d ∷ ds) k1.0 in
@@ -76,9 +79,11 @@ sized_right w [] after = tt
 sized_right w (b ∷ ds) after =
     one_right (is_width w && is_value (digits_value 10 w) (base_of b) ds && (eqb b 100 || not (next_is 63 after))) (piece (sized (digits_value 10 w) (digits_value (base_of b) ds)) (length w + length ds + 2)) None
     (λ e.
-    let k2 = and_true (is_width w && is_value (digits_value 10 w) (base_of b) ds) (eqb b 100 || not (next_is 63 after)) e in
+    let k2 =
+    and_true (is_width w && is_value (digits_value 10 w) (base_of b) ds) (eqb b 100 || not (next_is 63 after)) e in
     let k1 = and_true (is_width w) (is_value (digits_value 10 w) (base_of b) ds) k2.0 in
-    let k0 = and_true (all_digits (base_of b) ds && ltb 0 (length ds) && ltb (length ds) 65) (ltb (digits_value (base_of b) ds) (2 ^ digits_value 10 w)) k1.1 in
+    let k0 =
+    and_true (all_digits (base_of b) ds && ltb 0 (length ds) && ltb (length ds) 65) (ltb (digits_value (base_of b) ds) (2 ^ digits_value 10 w)) k1.1 in
     let width = width_right w k1.0 in
     (width.0, width.1, ltb-true (digits_value (base_of b) ds) (2 ^ digits_value 10 w) k0.1))
     (λ e. tt)
@@ -135,7 +140,8 @@ piece_right (b ∷ bs) =
     (λ e. one_right (eqb b 47) (comment_at bs) (cond (is_run b) (run_at (run_of (b ∷ bs)) (after_run (b ∷ bs))) (symbol_at b bs)) (λ e. comment_right bs)
     (λ e. one_right (is_run b) (run_at (run_of (b ∷ bs)) (after_run (b ∷ bs))) (symbol_at b bs) (λ e. run_right (run_of (b ∷ bs)) (after_run (b ∷ bs))) (λ e. symbol_right b bs)))
 
-pieced_right : (o : Option Piece) (n : ℕ) (rest : ℕ → List Placed) → RightPiece o → ((k : ℕ) → AreTokens (text_of (rest k))) → AreTokens (text_of (pieced o n rest))
+pieced_right : (o : Option Piece) (n : ℕ) (rest : ℕ → List Placed) → RightPiece o
+    → ((k : ℕ) → AreTokens (text_of (rest k))) → AreTokens (text_of (pieced o n rest))
 pieced_right None n rest r h = tt
 pieced_right (Some p) n rest r h =
     elim p.token as (λ t. RightToken t → AreTokens (text_of (with_token t n (rest (p.len - 1))))) [
@@ -146,7 +152,8 @@ pieced_right (Some p) n rest r h =
 behind_right : (bytes : List ℕ) (k : ℕ) → AreTokens (text_of (tokens_behind k bytes))
 unfolding tokens_behind
 behind_right [] k = tt
-behind_right (b ∷ bs) zero = pieced_right (piece_at (b ∷ bs)) (length bs + 1) (λ k. tokens_behind k bs) (piece_right (b ∷ bs)) (behind_right bs)
+behind_right (b ∷ bs) zero =
+    pieced_right (piece_at (b ∷ bs)) (length bs + 1) (λ k. tokens_behind k bs) (piece_right (b ∷ bs)) (behind_right bs)
 behind_right (b ∷ bs) (suc k) = behind_right bs k
 
 pub tokens_right : (bytes : List ℕ) → AreTokens (text_of (tokens_of bytes))
@@ -161,7 +168,8 @@ within_more : (m n : ℕ) (ts : List Placed) → m ≤ n → AreWithin m ts → 
 within_more m n [] l h = tt
 within_more m n (t ∷ ts) l h = (omega (arith, h.0), within_more m n ts l h.1)
 
-pieced_within : (o : Option Piece) (n : ℕ) (rest : ℕ → List Placed) → ((k : ℕ) → AreWithin n (rest k)) → AreWithin n (pieced o n rest)
+pieced_within : (o : Option Piece) (n : ℕ) (rest : ℕ → List Placed) → ((k : ℕ) → AreWithin n (rest k))
+    → AreWithin n (pieced o n rest)
 pieced_within None n rest h = tt
 pieced_within (Some p) n rest h =
     elim p.token as (λ t. AreWithin n (with_token t n (rest (p.len - 1)))) [ None ↦ h (p.len - 1) | Some t ↦ (omega arith, h (p.len - 1)) ]
@@ -171,9 +179,11 @@ unfolding tokens_behind
 behind_within [] k = tt
 behind_within (b ∷ bs) zero =
     let n : ℕ = length bs + 1 in
-    let all : AreWithin n (pieced (piece_at (b ∷ bs)) n (λ k. tokens_behind k bs)) = pieced_within (piece_at (b ∷ bs)) n (λ k. tokens_behind k bs) (λ k. within_more (length bs) n (tokens_behind k bs) (omega arith) (behind_within bs k)) in
+    let all : AreWithin n (pieced (piece_at (b ∷ bs)) n (λ k. tokens_behind k bs)) =
+    pieced_within (piece_at (b ∷ bs)) n (λ k. tokens_behind k bs) (λ k. within_more (length bs) n (tokens_behind k bs) (omega arith) (behind_within bs k)) in
     within_more n (length (b ∷ bs)) (pieced (piece_at (b ∷ bs)) n (λ k. tokens_behind k bs)) (omega arith) all
-behind_within (b ∷ bs) (suc k) = within_more (length bs) (length (b ∷ bs)) (tokens_behind k bs) (omega arith) (behind_within bs k)
+behind_within (b ∷ bs) (suc k) =
+    within_more (length bs) (length (b ∷ bs)) (tokens_behind k bs) (omega arith) (behind_within bs k)
 
 pub tokens_within : (bytes : List ℕ) → AreWithin (length bytes) (tokens_of bytes)
 tokens_within bytes = behind_within bytes 0

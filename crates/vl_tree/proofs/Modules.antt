@@ -32,7 +32,8 @@ abbrev declared : ℕ × Name → List Token
 declared x = range_tokens x.0 ++ (name x.1 ∷ [])
 
 declared_form : IsForm declared all_values any (both range_at (λ h. one the_name))
-declared_form = same_form declared all_values (λ x v. refl) (λ x v. tt) (λ x v. (tt, tt)) (then_any range_form (λ h. name_form) (λ h v r. a_name))
+declared_form =
+    same_form declared all_values (λ x v. refl) (λ x v. tt) (λ x v. (tt, tt)) (then_any range_form (λ h. name_form) (λ h v r. a_name))
 
 abbrev wire_tokens : ℕ × Name → List Token
 wire_tokens x = marks (codes "wire") ++ (range_tokens x.0 ++ (name x.1 ∷ marks (codes ";")))
@@ -85,7 +86,8 @@ wire_from (wire h n) v = ((h, n), tt, refl)
 wire_from _ v = absurd v
 
 wire_item_form : IsForm item_tokens IsWire any (made (λ x. wire x.0 x.1) wire_at)
-wire_item_form = made_form wire_tokens all_values item_tokens IsWire any (λ x. wire x.0 x.1) wire_at (λ x v. refl) (λ x v. tt) wire_from wire_form
+wire_item_form =
+    made_form wire_tokens all_values item_tokens IsWire any (λ x. wire x.0 x.1) wire_at (λ x v. refl) (λ x v. tt) wire_from wire_form
 
 abbrev last_tokens : Option ℕ → List Token
 last_tokens None = marks (codes ";")
@@ -190,15 +192,19 @@ abbrev clocked_of : ClockedOf → Item
 clocked_of x = clocked x.0.0 x.0.1 x.1.1
 
 abbrev always_tokens : Item → List Token
-always_tokens (clocked n r e) = marks (codes "rst )") ++ (name n ∷ (marks (codes "<=") ++ (const_token r ∷ (marks (codes "; else") ++ (name n ∷ (marks (codes "<=") ++ (expr_tokens e ++ marks (codes ";"))))))))
-always_tokens (store c n i e) = expr_tokens c ++ (marks (codes ")") ++ (name n ∷ (marks (codes "[") ++ (expr_tokens i ++ (marks (codes "] <=") ++ (expr_tokens e ++ marks (codes ";")))))))
+always_tokens (clocked n r e) =
+    marks (codes "rst )") ++ (name n ∷ (marks (codes "<=") ++ (const_token r ∷ (marks (codes "; else") ++ (name n ∷ (marks (codes "<=") ++ (expr_tokens e ++ marks (codes ";"))))))))
+always_tokens (store c n i e) =
+    expr_tokens c ++ (marks (codes ")") ++ (name n ∷ (marks (codes "[") ++ (expr_tokens i ++ (marks (codes "] <=") ++ (expr_tokens e ++ marks (codes ";")))))))
 always_tokens _ = []
 
 abbrev clocked_rest : Item → List Token
-clocked_rest (clocked n r e) = name n ∷ (marks (codes "<=") ++ (const_token r ∷ (marks (codes "; else") ++ (name n ∷ (marks (codes "<=") ++ (expr_tokens e ++ marks (codes ";")))))))
+clocked_rest (clocked n r e) =
+    name n ∷ (marks (codes "<=") ++ (const_token r ∷ (marks (codes "; else") ++ (name n ∷ (marks (codes "<=") ++ (expr_tokens e ++ marks (codes ";")))))))
 clocked_rest _ = []
 
-clocked_from : (y : Item) → IsClocked y → (x : ClockedOf) × ((Unit {0} × Unit {0}) × (Unit {0} × Fits limit x.1.1)) × (clocked_of x ≡ y)
+clocked_from : (y : Item) → IsClocked y
+    → (x : ClockedOf) × ((Unit {0} × Unit {0}) × (Unit {0} × Fits limit x.1.1)) × (clocked_of x ≡ y)
 clocked_from (clocked n r e) v = (((n, r), (tt, e)), ((tt, tt), (tt, v)), refl)
 clocked_from _ v = absurd v
 
@@ -226,7 +232,8 @@ StoreOf = Expr × (Name × (Expr × Expr))
 abbrev store_of : StoreOf → Item
 store_of x = store x.0 x.1.0 x.1.1.0 x.1.1.1
 
-store_from : (y : Item) → IsStore y → (x : StoreOf) × (Fits limit x.0 × (Unit {0} × (Fits limit x.1.1.0 × Fits limit x.1.1.1))) × (store_of x ≡ y)
+store_from : (y : Item) → IsStore y
+    → (x : StoreOf) × (Fits limit x.0 × (Unit {0} × (Fits limit x.1.1.0 × Fits limit x.1.1.1))) × (store_of x ≡ y)
 store_from (store c n i e) v = ((c, (n, (i, e))), (v.0, (tt, (v.1, v.2))), refl)
 store_from _ v = absurd v
 
@@ -261,7 +268,8 @@ expr_not_rst (values.cat values.no_parts) a = refl
 expr_not_rst (values.cat (values.parts e es)) a = refl
 
 store_leads : (x : Item) → IsStore x → Leads (fails_at (is_mark (codes "rst"))) (always_tokens x)
-store_leads (store c n i e) v = expr_not_rst c (marks (codes ")") ++ (name n ∷ (marks (codes "[") ++ (expr_tokens i ++ (marks (codes "] <=") ++ (expr_tokens e ++ marks (codes ";")))))))
+store_leads (store c n i e) v =
+    expr_not_rst c (marks (codes ")") ++ (name n ∷ (marks (codes "[") ++ (expr_tokens i ++ (marks (codes "] <=") ++ (expr_tokens e ++ marks (codes ";")))))))
 store_leads _ v = absurd v
 
 clocked_always : (x : Item) → IsClocked x → IsAlways x
@@ -277,7 +285,8 @@ always_split (clocked n r e) v = inl v
 always_split (store c n i e) v = inr v
 always_split _ v = absurd v
 
-always_spelled : (x : Item) → IsAlways x → item_tokens x ≡ marks (codes "always @ ( posedge clk ) if (") ++ always_tokens x
+always_spelled : (x : Item) → IsAlways x
+    → item_tokens x ≡ marks (codes "always @ ( posedge clk ) if (") ++ always_tokens x
 always_spelled (clocked n r e) v = refl
 always_spelled (store c n i e) v = refl
 always_spelled _ v = absurd v
@@ -509,7 +518,8 @@ InstanceOf = Name × (Name × (List Join × Unit {0}))
 abbrev instance_of : InstanceOf → TopItem
 instance_of x = Instance x.0 x.1.0 x.1.1.0
 
-instance_from : (y : TopItem) → IsInstance y → (x : InstanceOf) × (Unit {0} × (Unit {0} × (AllByRecursion all_values x.1.1.0 × Unit {0}))) × (instance_of x ≡ y)
+instance_from : (y : TopItem) → IsInstance y
+    → (x : InstanceOf) × (Unit {0} × (Unit {0} × (AllByRecursion all_values x.1.1.0 × Unit {0}))) × (instance_of x ≡ y)
 instance_from (Wire h n) v = absurd v
 instance_from (Instance l n joins) v = ((l, (n, (joins, tt))), (tt, (tt, (all_true joins, tt))), refl)
 
@@ -592,12 +602,15 @@ abbrev modules_rest : Design → List Token
 modules_rest d = each leaf_rest d.leaves ++ noc_rest d.top
 
 -- the word module of each leaf but the first stands with the leaf before it
-shifted : (ls : List values.Leaf) (t : Top) → mark (codes "module") ∷ (each leaf_rest ls ++ noc_rest t) ≡ each leaf_tokens ls ++ top_tokens t
+shifted : (ls : List values.Leaf) (t : Top)
+    → mark (codes "module") ∷ (each leaf_rest ls ++ noc_rest t) ≡ each leaf_tokens ls ++ top_tokens t
 shifted [] t = refl
 shifted (l ∷ ls) t =
     let more = shifted ls t in
-    let ended : leaf_rest l ++ (each leaf_rest ls ++ noc_rest t) ≡ name l.name ∷ (head_tokens l.ports ++ (each item_tokens l.items ++ (mark (codes "endmodule") ∷ (mark (codes "module") ∷ (each leaf_rest ls ++ noc_rest t))))) = ap (λ ts. name l.name ∷ ts) (simp append_assoc) in
-    let whole : leaf_tokens l ++ (each leaf_tokens ls ++ top_tokens t) ≡ mark (codes "module") ∷ (name l.name ∷ (head_tokens l.ports ++ (each item_tokens l.items ++ (mark (codes "endmodule") ∷ (each leaf_tokens ls ++ top_tokens t))))) = ap (λ ts. mark (codes "module") ∷ (name l.name ∷ ts)) (simp append_assoc) in
+    let ended : leaf_rest l ++ (each leaf_rest ls ++ noc_rest t) ≡ name l.name ∷ (head_tokens l.ports ++ (each item_tokens l.items ++ (mark (codes "endmodule") ∷ (mark (codes "module") ∷ (each leaf_rest ls ++ noc_rest t))))) =
+    ap (λ ts. name l.name ∷ ts) (simp append_assoc) in
+    let whole : leaf_tokens l ++ (each leaf_tokens ls ++ top_tokens t) ≡ mark (codes "module") ∷ (name l.name ∷ (head_tokens l.ports ++ (each item_tokens l.items ++ (mark (codes "endmodule") ∷ (each leaf_tokens ls ++ top_tokens t))))) =
+    ap (λ ts. mark (codes "module") ∷ (name l.name ∷ ts)) (simp append_assoc) in
     ap (λ ts. mark (codes "module") ∷ ts) (append_assoc (leaf_rest l) (each leaf_rest ls) (noc_rest t) ∙ ended)
     ∙ ap (λ ts. mark (codes "module") ∷ (name l.name ∷ (head_tokens l.ports ++ (each item_tokens l.items ++ (mark (codes "endmodule") ∷ ts))))) more
     ∙ sym whole ∙ sym (append_assoc (leaf_tokens l) (each leaf_tokens ls) (top_tokens t))
@@ -609,7 +622,8 @@ abbrev design_of : DesignOf → Design
 design_of x = record { leaves = x.0; top = x.1 }
 
 pub a_design : Example design_tokens DesignFits
-a_design = record { value = record { leaves = []; top = record { ports = []; items = [] } }; valid = tt; right = (tt, (tt, an_empty_top)) }
+a_design =
+    record { value = record { leaves = []; top = record { ports = []; items = [] } }; valid = tt; right = (tt, (tt, an_empty_top)) }
 
 pub modules_form : IsForm design_tokens DesignFits any modules_at
 unfolding modules_at

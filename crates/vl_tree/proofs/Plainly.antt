@@ -96,7 +96,8 @@ less d = omega arith
 means_behind : (a b : Bool) (P : Type 0) → a ≡ true → Means b P → Means (a && b) P
 means_behind a b P e m = record { to = λ h. m.to (and_true a b h).1; from = λ h. two_true a b e (m.from h) }
 
-pair_same : (d : ℕ) (e : Expr) (k : ℕ) → k ≡ d → Means (plain_expr d e) (PlainExpr d e) → Means (plain_expr k e) (PlainExpr d e)
+pair_same : (d : ℕ) (e : Expr) (k : ℕ) → k ≡ d → Means (plain_expr d e) (PlainExpr d e)
+    → Means (plain_expr k e) (PlainExpr d e)
 pair_same d e k is m = subst (λ x. Means (plain_expr x e) (PlainExpr d e)) (sym is) m
 
 mutual
@@ -148,7 +149,8 @@ mutual
       (means_behind (ltb 0 (suc d)) (plain_expr (suc d - 1) c) (PlainExpr d c) (above d) (pair_same d c (suc d - 1) (less d) (means_expr c d))) (pair_same d a (suc d - 1) (less d) (means_expr a d))) (pair_same d b (suc d - 1) (less d) (means_expr b d)))
       (λ h. ((tt, right_append (expr_tokens c) (marks (codes "?") ++ second) h.0.0.0 (tt, right_append (expr_tokens a) (marks (codes ":") ++ third) h.0.1.0 (tt, right_append (expr_tokens b) (marks (codes ")")) h.1.0 (tt, tt)))), (h.0.0.1, h.0.1.1, h.1.1)))
       (λ h.
-      let r1 : AreTokens (marks (codes "?") ++ second) = right_rest (expr_tokens c) (marks (codes "?") ++ second) h.0.1 in
+      let r1 : AreTokens (marks (codes "?") ++ second) =
+      right_rest (expr_tokens c) (marks (codes "?") ++ second) h.0.1 in
       let r2 : AreTokens (marks (codes ":") ++ third) = right_rest (expr_tokens a) (marks (codes ":") ++ third) r1.1 in
       (((right_front (expr_tokens c) (marks (codes "?") ++ second) h.0.1, h.1.0), (right_front (expr_tokens a) (marks (codes ":") ++ third) r1.1, h.1.1)), (right_front (expr_tokens b) (marks (codes ")")) r2.1, h.1.2)))
   means_expr (cat no_parts) (suc d) = means_never (PlainExpr (suc d) (cat no_parts)) (λ h. h.1)
@@ -200,7 +202,8 @@ means_item (clocked n r e) =
       k.1.1,
     ))
     (λ k.
-    let q : AreTokens (name n ∷ (marks (codes "<=") ++ (const_token r ∷ (marks (codes "; else") ++ (name n ∷ (marks (codes "<=") ++ (expr_tokens e ++ marks (codes ";")))))))) = k.0.1.1.1.1.1.1.1.1.1.1 in
+    let q : AreTokens (name n ∷ (marks (codes "<=") ++ (const_token r ∷ (marks (codes "; else") ++ (name n ∷ (marks (codes "<=") ++ (expr_tokens e ++ marks (codes ";")))))))) =
+    k.0.1.1.1.1.1.1.1.1.1.1 in
     ((q.0, q.1.1.0), (closed_front e q.1.1.1.1.1.1.1, k.1)))
 means_item (store c n i e) =
     let last : List Token = expr_tokens e ++ marks (codes ";") in
@@ -222,7 +225,9 @@ means_item (store c n i e) =
     ((((right_front (expr_tokens c) rest q, k.1.0), q1.1.0), (right_front (expr_tokens i) (marks (codes "] <=") ++ last) q2, k.1.1)), (closed_front e q3.1.1, k.1.2)))
 
 -- the same of each in a list, with what is spelled of each
-means_each : {A : Type 0} (test : A → Bool) (s : A → List Token) (V : A → Type 0) → ((x : A) → Means (test x) (AreTokens (s x) × V x)) → (xs : List A) → Means (list_all test xs) (AreTokens (each s xs) × AllByRecursion V xs)
+means_each : {A : Type 0} (test : A → Bool) (s : A → List Token) (V : A → Type 0)
+    → ((x : A) → Means (test x) (AreTokens (s x) × V x)) → (xs : List A)
+    → Means (list_all test xs) (AreTokens (each s xs) × AllByRecursion V xs)
 means_each test s V one [] = record { to = λ e. (tt, tt); from = λ h. refl }
 means_each test s V one (x ∷ xs) =
     means_same (test x && list_all test xs) ((AreTokens (s x) × V x) × (AreTokens (each s xs) × AllByRecursion V xs)) (AreTokens (each s (x ∷ xs)) × AllByRecursion V (x ∷ xs))
@@ -247,10 +252,12 @@ means_join j =
     (λ k. ((tt, (tt, (k.0, (tt, (k.1, (tt, tt)))))), tt)) (λ k. (k.0.1.1.0, k.0.1.1.1.1.0))
 
 head_right : (ps : List Port) → AreTokens (each port_tokens ps) → AreTokens (head_tokens ps)
-head_right ps h = right_append (marks (codes "( input wire clk , input wire rst")) (each port_tokens ps ++ marks (codes ") ;")) (right_marks (split (codes "( input wire clk , input wire rst")) refl) (right_append (each port_tokens ps) (marks (codes ") ;")) h (tt, (tt, tt)))
+head_right ps h =
+    right_append (marks (codes "( input wire clk , input wire rst")) (each port_tokens ps ++ marks (codes ") ;")) (right_marks (split (codes "( input wire clk , input wire rst")) refl) (right_append (each port_tokens ps) (marks (codes ") ;")) h (tt, (tt, tt)))
 
 head_front : (ps : List Port) → AreTokens (head_tokens ps) → AreTokens (each port_tokens ps)
-head_front ps h = right_front (each port_tokens ps) (marks (codes ") ;")) (right_rest (marks (codes "( input wire clk , input wire rst")) (each port_tokens ps ++ marks (codes ") ;")) h)
+head_front ps h =
+    right_front (each port_tokens ps) (marks (codes ") ;")) (right_rest (marks (codes "( input wire clk , input wire rst")) (each port_tokens ps ++ marks (codes ") ;")) h)
 
 all_always : {A : Type 0} (xs : List A) → AllByRecursion (λ (x : A). Unit {0}) xs
 all_always [] = tt
@@ -297,7 +304,8 @@ means_design d =
       fits = h.0.0.1;
     })
     (λ p.
-    let q : AreTokens (head_tokens d.top.ports ++ rest) = (right_rest (each leaf_tokens d.leaves) (top_tokens d.top) p.tokens).1.1 in
+    let q : AreTokens (head_tokens d.top.ports ++ rest) =
+    (right_rest (each leaf_tokens d.leaves) (top_tokens d.top) p.tokens).1.1 in
     (((right_front (each leaf_tokens d.leaves) (top_tokens d.top) p.tokens, p.fits), (head_front d.top.ports (right_front (head_tokens d.top.ports) rest q), all_always d.top.ports)), (right_front (each top_item_tokens d.top.items) (marks (codes "endmodule")) (right_rest (head_tokens d.top.ports) rest q), all_always d.top.items)))
 
 pub plain_is : (d : Design) → plain_design d ≡ true → IsPlain d

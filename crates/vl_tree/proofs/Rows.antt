@@ -84,7 +84,8 @@ no_underscore = refl
 -- ---- whole texts
 
 wrong_width : List ℕ
-wrong_width = codes "module r_0 (input wire clk, input wire rst, output wire [1:0] q_0);\n  assign q_0 = 3'd0;\nendmodule\nmodule noc (input wire clk, input wire rst);\nendmodule\n"
+wrong_width =
+    codes "module r_0 (input wire clk, input wire rst, output wire [1:0] q_0);\n  assign q_0 = 3'd0;\nendmodule\nmodule noc (input wire clk, input wire rst);\nendmodule\n"
 
 -- a leaf with one port and one assign to it
 one_assign : Expr → Design
@@ -102,7 +103,8 @@ unfolding one_assign limit
 wrong_width_is_plain = refl
 
 no_parts_at_all : List ℕ
-no_parts_at_all = codes "module r_0 (input wire clk, input wire rst, output wire [1:0] q_0);\n  assign q_0 = {};\nendmodule\nmodule noc (input wire clk, input wire rst);\nendmodule\n"
+no_parts_at_all =
+    codes "module r_0 (input wire clk, input wire rst, output wire [1:0] q_0);\n  assign q_0 = {};\nendmodule\nmodule noc (input wire clk, input wire rst);\nendmodule\n"
 
 no_parts_tokens : text_of (tokens_of no_parts_at_all) ≡ design_tokens (one_assign (cat no_parts))
 unfolding no_parts_at_all one_assign tokens_behind piece_at

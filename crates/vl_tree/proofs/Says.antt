@@ -38,14 +38,16 @@ all_append p (x ∷ a) b e f =
     let h : p x ≡ true = k.0 in
     rw h (all_append p a b k.1 f)
 
-pub says_then : {C D : List ℕ → Type 0} {a b : List ℕ} {s t : List Token} → Says C a s → Says D b t → ((rest : List ℕ) → D rest → C (b ++ rest)) → Says D (a ++ b) (s ++ t)
+pub says_then : {C D : List ℕ → Type 0} {a b : List ℕ} {s t : List Token} → Says C a s → Says D b t
+    → ((rest : List ℕ) → D rest → C (b ++ rest)) → Says D (a ++ b) (s ++ t)
 says_then {C} {D} {a} {b} {s} {t} p q follows = record {
   clean = all_append is_text_byte a b p.clean q.clean;
   reads = λ rest d. ap (λ bs. text_of (tokens_of bs)) (append_assoc a b rest) ∙ p.reads (b ++ rest) (follows rest d) ∙ ap (λ ts. s ++ ts) (q.reads rest d) ∙ sym (append_assoc s t (text_of (tokens_of rest)));
   whole = λ rest d. ap unread (append_assoc a b rest) ∙ p.whole (b ++ rest) (follows rest d) ∙ q.whole rest d;
 }
 
-pub any_then : {D : List ℕ → Type 0} {a b : List ℕ} {s t : List Token} → Says Any a s → Says D b t → Says D (a ++ b) (s ++ t)
+pub any_then : {D : List ℕ → Type 0} {a b : List ℕ} {s t : List Token} → Says Any a s → Says D b t
+    → Says D (a ++ b) (s ++ t)
 any_then p q = says_then p q (λ rest d. tt)
 
 -- begins with a byte that may follow a name
@@ -57,7 +59,8 @@ starts_open : (b rest : List ℕ) → Starts b → Open (b ++ rest)
 starts_open [] rest s = absurd s
 starts_open (c ∷ cs) rest s = s
 
-pub open_then : {D : List ℕ → Type 0} {a b : List ℕ} {s t : List Token} → Says Open a s → Starts b → Says D b t → Says D (a ++ b) (s ++ t)
+pub open_then : {D : List ℕ → Type 0} {a b : List ℕ} {s t : List Token} → Says Open a s → Starts b → Says D b t
+    → Says D (a ++ b) (s ++ t)
 open_then {b = b} p s q = says_then p q (λ rest d. starts_open b rest s)
 
 pub loosen : {a : List ℕ} {s : List Token} → Says Any a s → Says Open a s
@@ -80,7 +83,8 @@ unread_drop (suc k) (b ∷ bs) = unread_drop k bs
 drop_front : (a rest : List ℕ) → drop (length a) (a ++ rest) ≡ rest
 drop_front a rest = drop_at a rest (length a) refl
 
-pub piece_says : (C : List ℕ → Type 0) (b : ℕ) (bs : List ℕ) (t : Token) → list_all is_text_byte (b ∷ bs) ≡ true → ((rest : List ℕ) → C rest → piece_at (b ∷ (bs ++ rest)) ≡ piece t (length bs + 1)) → Says C (b ∷ bs) (t ∷ [])
+pub piece_says : (C : List ℕ → Type 0) (b : ℕ) (bs : List ℕ) (t : Token) → list_all is_text_byte (b ∷ bs) ≡ true
+    → ((rest : List ℕ) → C rest → piece_at (b ∷ (bs ++ rest)) ≡ piece t (length bs + 1)) → Says C (b ∷ bs) (t ∷ [])
 unfolding tokens_behind unread_behind
 piece_says C b bs t clean is =
     let back : length bs + 1 - 1 ≡ length bs = omega arith in
@@ -112,7 +116,8 @@ letter_at b e = (grind (arith, nat_tests), grind (arith, nat_tests), grind (arit
 digit_range : (d : ℕ) → digit_value d < 10 → (48 ≤ d) × (d ≤ 57)
 digit_range d h = (grind (arith, nat_tests), grind (arith, nat_tests))
 
-digit_at : (d : ℕ) → digit_value d < 10 → (is_blank d ≡ false) × (eqb d 47 ≡ false) × (is_text_byte d ≡ true) × (is_run d ≡ true) × (is_letter d ≡ false)
+digit_at : (d : ℕ) → digit_value d < 10
+    → (is_blank d ≡ false) × (eqb d 47 ≡ false) × (is_text_byte d ≡ true) × (is_run d ≡ true) × (is_letter d ≡ false)
 digit_at d h =
     let r = digit_range d h in
     (grind (arith, nat_tests), grind (arith, nat_tests), grind (arith, nat_tests), grind (arith, nat_tests), grind (arith, nat_tests))
@@ -148,7 +153,8 @@ no_quote [] o = refl
 no_quote (c ∷ cs) o = (open_not_run c o).1
 
 -- what holds of each of these texts holds of one that is among them
-among : (r : List ℕ) (ws : List (List ℕ)) (P : List ℕ → Type 0) → AllByRecursion P ws → list_any (bytes_eq r) ws ≡ true → P r
+among : (r : List ℕ) (ws : List (List ℕ)) (P : List ℕ → Type 0) → AllByRecursion P ws → list_any (bytes_eq r) ws ≡ true
+    → P r
 among r [] P all e = absurd cc
 among r (w ∷ ws) P all e =
     elim (bytes_eq r w) as (λ t. bytes_eq r w ≡ t → (t || list_any (bytes_eq r) ws) ≡ true → P r) [
@@ -161,7 +167,8 @@ abbrev IsWordText : List ℕ → Type 0
 IsWordText w = (is_name w ≡ false) × (all_digits 10 w ≡ false)
 
 word_is : (r : List ℕ) → is_word r ≡ true → IsWordText r
-word_is r e = among r words IsWordText ((refl, refl), ((refl, refl), ((refl, refl), ((refl, refl), ((refl, refl), ((refl, refl), ((refl, refl), ((refl, refl), ((refl, refl), ((refl, refl), ((refl, refl), ((refl, refl), ((refl, refl), ((refl, refl), tt)))))))))))))) e
+word_is r e =
+    among r words IsWordText ((refl, refl), ((refl, refl), ((refl, refl), ((refl, refl), ((refl, refl), ((refl, refl), ((refl, refl), ((refl, refl), ((refl, refl), ((refl, refl), ((refl, refl), ((refl, refl), ((refl, refl), ((refl, refl), tt)))))))))))))) e
 
 name_no_word : (r : List ℕ) → is_name r ≡ true → is_word r ≡ false
 name_no_word r e = elim (is_word r) as (λ t. is_word r ≡ t → t ≡ false) [ true ↦ λ is. let k = (word_is r is).0 in true_not_false (sym e ∙ k) | false ↦ λ is. refl ] refl
@@ -174,15 +181,18 @@ digits_no_word r e = elim (is_word r) as (λ t. is_word r ≡ t → t ≡ false)
 name_runs : (b : ℕ) (bs : List ℕ) → is_name (b ∷ bs) ≡ true → (is_letter b ≡ true) × (list_all is_run bs ≡ true)
 name_runs b bs e =
     let k4 = and_true (is_letter b) (is_name_rest bs) e in
-    let k3 = and_true (list_all is_run bs && ltb (length bs) 64 && list_any (λ c. eqb c 95) bs) (list_any is_ascii_digit bs) k4.1 in
+    let k3 =
+    and_true (list_all is_run bs && ltb (length bs) 64 && list_any (λ c. eqb c 95) bs) (list_any is_ascii_digit bs) k4.1 in
     let k2 = and_true (list_all is_run bs && ltb (length bs) 64) (list_any (λ c. eqb c 95) bs) k3.0 in
     let k1 = and_true (list_all is_run bs) (ltb (length bs) 64) k2.0 in
     (k4.0, k1.0)
 
-third : (x y z : Bool) (p q r s : Option Piece) → x ≡ false → y ≡ false → z ≡ true → cond x p (cond y q (cond z r s)) ≡ r
+third : (x y z : Bool) (p q r s : Option Piece) → x ≡ false → y ≡ false → z ≡ true
+    → cond x p (cond y q (cond z r s)) ≡ r
 third x y z p q r s e f g = rw (e, f, g) refl
 
-run_piece : (b : ℕ) (bs rest : List ℕ) → is_blank b ≡ false → eqb b 47 ≡ false → list_all is_run (b ∷ bs) ≡ true → Open rest → piece_at (b ∷ (bs ++ rest)) ≡ run_at (b ∷ bs) rest
+run_piece : (b : ℕ) (bs rest : List ℕ) → is_blank b ≡ false → eqb b 47 ≡ false → list_all is_run (b ∷ bs) ≡ true
+    → Open rest → piece_at (b ∷ (bs ++ rest)) ≡ run_at (b ∷ bs) rest
 unfolding piece_at
 run_piece b bs rest blank slash runs o =
     let r = (and_true (is_run b) (list_all is_run bs) runs).0 in
@@ -219,13 +229,15 @@ digits_runs (d ∷ ds) h =
 no_name : (d : ℕ) (ds : List ℕ) → is_letter d ≡ false → is_name (d ∷ ds) ≡ false
 no_name d ds e = rw e refl
 
-fourth : (w n q v : Bool) (a b c d e : Option Piece) → w ≡ false → n ≡ false → q ≡ false → v ≡ true → cond w a (cond n b (cond q c (cond v d e))) ≡ d
+fourth : (w n q v : Bool) (a b c d e : Option Piece) → w ≡ false → n ≡ false → q ≡ false → v ≡ true
+    → cond w a (cond n b (cond q c (cond v d e))) ≡ d
 fourth w n q v a b c d e f g h i = rw (f, g, h, i) refl
 
 three : (a b c : Bool) → a ≡ true → b ≡ true → c ≡ true → (a && b && c) ≡ true
 three a b c e f g = rw (e, f, g) refl
 
-plain_says_of : (ds : List ℕ) (v : ℕ) → 0 < length ds → length ds ≤ 9 → AllDigits 10 ds → digits_value 10 ds ≡ v → Says Open ds (plain v ∷ [])
+plain_says_of : (ds : List ℕ) (v : ℕ) → 0 < length ds → length ds ≤ 9 → AllDigits 10 ds → digits_value 10 ds ≡ v
+    → Says Open ds (plain v ∷ [])
 plain_says_of [] v some short all is = absurd (omega arith)
 plain_says_of (d ∷ ds) v some short all is =
     let k = digit_at d all.0 in
@@ -234,7 +246,8 @@ plain_says_of (d ∷ ds) v some short all is =
     let some' : ltb 0 (length (d ∷ ds)) ≡ true = lt-ltb 0 (length (d ∷ ds)) some in
     let short' : ltb (length (d ∷ ds)) 10 ≡ true = lt-ltb (length (d ∷ ds)) 10 (omega arith) in
     let all' : all_digits 10 (d ∷ ds) ≡ true = r.1 in
-    let plain' : is_plain (d ∷ ds) ≡ true = three (all_digits 10 (d ∷ ds)) (ltb 0 (length (d ∷ ds))) (ltb (length (d ∷ ds)) 10) all' some' short' in
+    let plain' : is_plain (d ∷ ds) ≡ true =
+    three (all_digits 10 (d ∷ ds)) (ltb 0 (length (d ∷ ds))) (ltb (length (d ∷ ds)) 10) all' some' short' in
     piece_says Open d ds (plain v) (runs_text (d ∷ ds) r.0) (λ rest o.
     run_piece d ds rest k.0 k.1 r.0 o
     ∙ fourth (is_word (d ∷ ds)) (is_name (d ∷ ds)) (next_is 39 rest) (is_plain (d ∷ ds)) (piece (mark (d ∷ ds)) (length (d ∷ ds))) (piece (name (d ∷ ds)) (length (d ∷ ds))) (sized_at (d ∷ ds) (run_of (drop 1 rest)) (after_run (drop 1 rest))) (piece (plain (digits_value 10 (d ∷ ds))) (length (d ∷ ds))) None
@@ -249,7 +262,8 @@ plain_says v small =
 
 -- ---- constants
 
-fifth : (w n q : Bool) (a b c d : Option Piece) → w ≡ false → n ≡ false → q ≡ true → cond w a (cond n b (cond q c d)) ≡ c
+fifth : (w n q : Bool) (a b c d : Option Piece) → w ≡ false → n ≡ false → q ≡ true
+    → cond w a (cond n b (cond q c d)) ≡ c
 fifth w n q a b c d f g h = rw (f, g, h) refl
 
 sized_is : (b : Bool) (p : Option Piece) → b ≡ true → cond b p None ≡ p
@@ -258,7 +272,8 @@ sized_is b p e = rw e refl
 two_true : (a b : Bool) → a ≡ true → b ≡ true → (a && b) ≡ true
 two_true a b e f = rw (e, f) refl
 
-width_is : (ds : List ℕ) → AllDigits 10 ds → 0 < length ds → length ds ≤ 2 → 48 < get_or ds 0 0 → digits_value 10 ds ≤ 64 → is_width ds ≡ true
+width_is : (ds : List ℕ) → AllDigits 10 ds → 0 < length ds → length ds ≤ 2 → 48 < get_or ds 0 0
+    → digits_value 10 ds ≤ 64 → is_width ds ≡ true
 width_is [] all some short first small = absurd (omega arith)
 width_is (d ∷ ds) all some short first small =
     let r = (digits_runs (d ∷ ds) all).1 in
@@ -269,13 +284,15 @@ width_is (d ∷ ds) all some short first small =
     (lt-ltb (length (d ∷ ds)) 3 (omega arith)))
     (le-leb (digits_value 10 (d ∷ ds)) 64 small)
 
-value_is : (w : ℕ) (ds : List ℕ) → AllDigits 10 ds → 0 < length ds → length ds ≤ 20 → digits_value 10 ds < 2 ^ w → is_value w 10 ds ≡ true
+value_is : (w : ℕ) (ds : List ℕ) → AllDigits 10 ds → 0 < length ds → length ds ≤ 20 → digits_value 10 ds < 2 ^ w
+    → is_value w 10 ds ≡ true
 value_is w ds all some short small =
     two_true (all_digits 10 ds && ltb 0 (length ds) && ltb (length ds) 65) (ltb (digits_value 10 ds) (2 ^ w))
     (two_true (all_digits 10 ds && ltb 0 (length ds)) (ltb (length ds) 65) (two_true (all_digits 10 ds) (ltb 0 (length ds)) (digits_runs ds all).1 (lt-ltb 0 (length ds) some)) (lt-ltb (length ds) 65 (omega arith)))
     (lt-ltb (digits_value 10 ds) (2 ^ w) small)
 
-sized_piece : (ws ds rest : List ℕ) → is_width ws ≡ true → is_value (digits_value 10 ws) 10 ds ≡ true → sized_at ws (100 ∷ ds) rest ≡ piece (sized (digits_value 10 ws) (digits_value 10 ds)) (length ws + length ds + 2)
+sized_piece : (ws ds rest : List ℕ) → is_width ws ≡ true → is_value (digits_value 10 ws) 10 ds ≡ true
+    → sized_at ws (100 ∷ ds) rest ≡ piece (sized (digits_value 10 ws) (digits_value 10 ds)) (length ws + length ds + 2)
 sized_piece ws ds rest w v =
     sized_is (is_width ws && is_value (digits_value 10 ws) 10 ds && true) (piece (sized (digits_value 10 ws) (digits_value 10 ds)) (length ws + length ds + 2))
     (two_true (is_width ws && is_value (digits_value 10 ws) 10 ds) true (two_true (is_width ws) (is_value (digits_value 10 ws) 10 ds) w v) refl)
@@ -288,7 +305,8 @@ run_quote (x ∷ a) rest e =
     let h = k.0 in
     take_while-cons is_run x (a ++ (39 ∷ rest)) ∙ rw h (ap (λ bs. x ∷ bs) (run_quote a rest k.1))
 
-quoted_piece : (b : ℕ) (bs rest : List ℕ) → is_blank b ≡ false → eqb b 47 ≡ false → list_all is_run (b ∷ bs) ≡ true → piece_at (b ∷ (bs ++ (39 ∷ rest))) ≡ run_at (b ∷ bs) (39 ∷ rest)
+quoted_piece : (b : ℕ) (bs rest : List ℕ) → is_blank b ≡ false → eqb b 47 ≡ false → list_all is_run (b ∷ bs) ≡ true
+    → piece_at (b ∷ (bs ++ (39 ∷ rest))) ≡ run_at (b ∷ bs) (39 ∷ rest)
 unfolding piece_at
 quoted_piece b bs rest blank slash runs =
     let r = (and_true (is_run b) (list_all is_run bs) runs).0 in
@@ -297,7 +315,9 @@ quoted_piece b bs rest blank slash runs =
     third (is_blank b) (eqb b 47) (is_run b) (Some (gap 1)) (comment_at (bs ++ (39 ∷ rest))) (run_at (run_of (b ∷ (bs ++ (39 ∷ rest)))) (after_run (b ∷ (bs ++ (39 ∷ rest))))) (symbol_at b (bs ++ (39 ∷ rest))) blank slash r
     ∙ ap (λ x. run_at x (after_run (b ∷ (bs ++ (39 ∷ rest))))) front ∙ ap (run_at (b ∷ bs)) after
 
-sized_says_of : (ws ds : List ℕ) → AllDigits 10 ws → 0 < length ws → AllDigits 10 ds → is_width ws ≡ true → is_value (digits_value 10 ws) 10 ds ≡ true → Says Open (ws ++ (39 ∷ (100 ∷ ds))) (sized (digits_value 10 ws) (digits_value 10 ds) ∷ [])
+sized_says_of : (ws ds : List ℕ) → AllDigits 10 ws → 0 < length ws → AllDigits 10 ds → is_width ws ≡ true
+    → is_value (digits_value 10 ws) 10 ds ≡ true
+    → Says Open (ws ++ (39 ∷ (100 ∷ ds))) (sized (digits_value 10 ws) (digits_value 10 ds) ∷ [])
 sized_says_of [] ds allw some alld width value = absurd (omega arith)
 sized_says_of (d ∷ ws) ds allw some alld width value =
     let k = digit_at d allw.0 in
@@ -306,27 +326,32 @@ sized_says_of (d ∷ ws) ds allw some alld width value =
     let quote : list_all is_text_byte (39 ∷ (100 ∷ ds)) ≡ true = runs_text ds q.0 in
     let behind : list_all is_run (100 ∷ ds) ≡ true = q.0 in
     piece_says Open d (ws ++ (39 ∷ (100 ∷ ds))) (sized (digits_value 10 (d ∷ ws)) (digits_value 10 ds)) (all_append is_text_byte (d ∷ ws) (39 ∷ (100 ∷ ds)) (runs_text (d ∷ ws) r.0) quote) (λ rest o.
-    let regroup : d ∷ ((ws ++ (39 ∷ (100 ∷ ds))) ++ rest) ≡ d ∷ (ws ++ (39 ∷ (100 ∷ (ds ++ rest)))) = ap (λ bs. d ∷ bs) (append_assoc ws (39 ∷ (100 ∷ ds)) rest) in
+    let regroup : d ∷ ((ws ++ (39 ∷ (100 ∷ ds))) ++ rest) ≡ d ∷ (ws ++ (39 ∷ (100 ∷ (ds ++ rest)))) =
+    ap (λ bs. d ∷ bs) (append_assoc ws (39 ∷ (100 ∷ ds)) rest) in
     let after : List ℕ = 39 ∷ (100 ∷ (ds ++ rest)) in
     let front : run_of (100 ∷ (ds ++ rest)) ≡ 100 ∷ ds = run_front (100 ∷ ds) rest behind o in
     let last : after_run (100 ∷ (ds ++ rest)) ≡ rest = after_front (100 ∷ ds) rest behind o in
-    let count : length (d ∷ ws) + length ds + 2 ≡ length (ws ++ (39 ∷ (100 ∷ ds))) + 1 = omega (arith, length-append ws (39 ∷ (100 ∷ ds))) in
+    let count : length (d ∷ ws) + length ds + 2 ≡ length (ws ++ (39 ∷ (100 ∷ ds))) + 1 =
+    omega (arith, length-append ws (39 ∷ (100 ∷ ds))) in
     ap piece_at regroup ∙ quoted_piece d ws (100 ∷ (ds ++ rest)) k.0 k.1 r.0
     ∙ fifth (is_word (d ∷ ws)) (is_name (d ∷ ws)) (next_is 39 after) (piece (mark (d ∷ ws)) (length (d ∷ ws))) (piece (name (d ∷ ws)) (length (d ∷ ws))) (sized_at (d ∷ ws) (run_of (100 ∷ (ds ++ rest))) (after_run (100 ∷ (ds ++ rest)))) (cond (is_plain (d ∷ ws)) (piece (plain (digits_value 10 (d ∷ ws))) (length (d ∷ ws))) None)
     (digits_no_word (d ∷ ws) r.1) (no_name d ws k.4) refl
     ∙ ap (λ x. sized_at (d ∷ ws) x (after_run (100 ∷ (ds ++ rest)))) front ∙ ap (sized_at (d ∷ ws) (100 ∷ ds)) last
     ∙ sized_piece (d ∷ ws) ds rest width value ∙ ap (piece (sized (digits_value 10 (d ∷ ws)) (digits_value 10 ds))) count)
 
-pub sized_says : (w v : ℕ) → 0 < w → w ≤ 64 → v < 2 ^ w → v < 2 ^ 64 → Says Open (decimal w ++ (codes "'d" ++ decimal v)) (sized w v ∷ [])
+pub sized_says : (w v : ℕ) → 0 < w → w ≤ 64 → v < 2 ^ w → v < 2 ^ 64
+    → Says Open (decimal w ++ (codes "'d" ++ decimal v)) (sized w v ∷ [])
 sized_says w v pos small value wide =
     let ww : w < 2 ^ 64 = omega arith in
     let nw = decimal_is_IsNumeral w ww in
     let nv = decimal_is_IsNumeral v wide in
     let wis : digits_value 10 (decimal w) ≡ w = nw.1 in
     let vis : digits_value 10 (decimal v) ≡ v = nv.1 in
-    let width : is_width (decimal w) ≡ true = width_is (decimal w) nw.0.1 nw.0.0 (length-decimal-le 2 w (omega arith) (omega arith) ww) (first_decimal w pos ww) (omega (arith, wis)) in
+    let width : is_width (decimal w) ≡ true =
+    width_is (decimal w) nw.0.1 nw.0.0 (length-decimal-le 2 w (omega arith) (omega arith) ww) (first_decimal w pos ww) (omega (arith, wis)) in
     let below : digits_value 10 (decimal v) < 2 ^ w = omega (arith, vis) in
-    let good : is_value (digits_value 10 (decimal w)) 10 (decimal v) ≡ true = subst (λ x. is_value x 10 (decimal v) ≡ true) (sym wis) (value_is w (decimal v) nv.0.1 nv.0.0 (length-decimal-le 20 v (omega arith) (omega arith) wide) below) in
+    let good : is_value (digits_value 10 (decimal w)) 10 (decimal v) ≡ true =
+    subst (λ x. is_value x 10 (decimal v) ≡ true) (sym wis) (value_is w (decimal v) nv.0.1 nv.0.0 (length-decimal-le 20 v (omega arith) (omega arith) wide) below) in
     let all = sized_says_of (decimal w) (decimal v) nw.0.1 nw.0.0 nv.0.1 width good in
     subst (λ (x : ℕ). Says Open (decimal w ++ (codes "'d" ++ decimal v)) (sized w x ∷ [])) vis (subst (λ (x : ℕ). Says Open (decimal w ++ (codes "'d" ++ decimal v)) (sized x (digits_value 10 (decimal v)) ∷ [])) wis all)
 
@@ -335,7 +360,8 @@ sized_says w v pos small value wide =
 worded : (w : Bool) (p q : Option Piece) → w ≡ true → cond w p q ≡ p
 worded w p q e = rw e refl
 
-pub word_says : (b : ℕ) (bs : List ℕ) → is_word (b ∷ bs) ≡ true → is_blank b ≡ false → eqb b 47 ≡ false → list_all is_run (b ∷ bs) ≡ true → Says Open (b ∷ bs) (mark (b ∷ bs) ∷ [])
+pub word_says : (b : ℕ) (bs : List ℕ) → is_word (b ∷ bs) ≡ true → is_blank b ≡ false → eqb b 47 ≡ false
+    → list_all is_run (b ∷ bs) ≡ true → Says Open (b ∷ bs) (mark (b ∷ bs) ∷ [])
 word_says b bs word blank slash runs =
     let count : length (b ∷ bs) ≡ length bs + 1 = omega arith in
     piece_says Open b bs (mark (b ∷ bs)) (runs_text (b ∷ bs) runs) (λ rest o.

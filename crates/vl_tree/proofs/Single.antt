@@ -14,7 +14,8 @@ use Rattle.vl_tree.proofs.Forms.{any, any_follows, Leads, leads_follow, IsForm, 
 
 -- ---- shorter forms of the laws
 
-pub same_form : {X : Type 0} {s : X → List Token} {V : X → Type 0} {f : Token → Bool} {p : Reader X} (s' : X → List Token) (V' : X → Type 0)
+pub same_form : {X : Type 0} {s : X → List Token} {V : X → Type 0} {f : Token → Bool} {p : Reader X}
+    (s' : X → List Token) (V' : X → Type 0)
     → ((x : X) → V x → s' x ≡ s x) → ((x : X) → V x → V' x) → ((x : X) → V' x → V x) → IsForm s V f p → IsForm s' V' f p
 same_form s' V' spelled to from one = record {
   at = λ ts. record {
@@ -41,13 +42,19 @@ same_form s' V' spelled to from one = record {
       one.again x v' front r (subst AreTokens same right) (e ∙ same) m;
 }
 
-pub then_any : {X Y : Type 0} {s : X → List Token} {V : X → Type 0} {t : X → Y → List Token} {W : X → Y → Type 0} {f : Token → Bool} {p : Reader X} {k : X → Reader Y}
-    → IsForm s V any p → ((x : X) → IsForm (t x) (W x) f (k x)) → ((x : X) → V x → AreTokens (s x) → Example (t x) (W x)) → IsForm (s2 s t) (V2 V W) f (both p k)
-then_any {s = s} {V = V} {t = t} {W = W} {f = f} {p = p} {k = k} one then example = both_form s V t W any f p k one then example (λ x y front r v w e m. any_follows (front ++ r))
+pub then_any : {X Y : Type 0} {s : X → List Token} {V : X → Type 0} {t : X → Y → List Token} {W : X → Y → Type 0}
+    {f : Token → Bool} {p : Reader X} {k : X → Reader Y}
+    → IsForm s V any p → ((x : X) → IsForm (t x) (W x) f (k x))
+    → ((x : X) → V x → AreTokens (s x) → Example (t x) (W x)) → IsForm (s2 s t) (V2 V W) f (both p k)
+then_any {s = s} {V = V} {t = t} {W = W} {f = f} {p = p} {k = k} one then example =
+    both_form s V t W any f p k one then example (λ x y front r v w e m. any_follows (front ++ r))
 
-pub then_led : {X Y : Type 0} {s : X → List Token} {V : X → Type 0} {t : X → Y → List Token} {W : X → Y → Type 0} {g f : Token → Bool} {p : Reader X} {k : X → Reader Y}
-    → IsForm s V g p → ((x : X) → IsForm (t x) (W x) f (k x)) → ((x : X) → V x → AreTokens (s x) → Example (t x) (W x)) → ((x : X) (y : Y) → V x → W x y → Leads g (t x y)) → IsForm (s2 s t) (V2 V W) f (both p k)
-then_led {s = s} {V = V} {t = t} {W = W} {g = g} {f = f} {p = p} {k = k} one then example leads = both_form s V t W g f p k one then example (λ x y front r v w e m. leads_follow g (t x y) front r (leads x y v w) e)
+pub then_led : {X Y : Type 0} {s : X → List Token} {V : X → Type 0} {t : X → Y → List Token} {W : X → Y → Type 0}
+    {g f : Token → Bool} {p : Reader X} {k : X → Reader Y}
+    → IsForm s V g p → ((x : X) → IsForm (t x) (W x) f (k x)) → ((x : X) → V x → AreTokens (s x) → Example (t x) (W x))
+    → ((x : X) (y : Y) → V x → W x y → Leads g (t x y)) → IsForm (s2 s t) (V2 V W) f (both p k)
+then_led {s = s} {V = V} {t = t} {W = W} {g = g} {f = f} {p = p} {k = k} one then example leads =
+    both_form s V t W g f p k one then example (λ x y front r v w e m. leads_follow g (t x y) front r (leads x y v w) e)
 
 -- ---- words and symbols
 
@@ -76,24 +83,30 @@ all_values x = Unit {0}
 later : (m : List ℕ) (ms : List (List ℕ)) → are_marks (m ∷ ms) ≡ true → are_marks ms ≡ true
 later m ms e = elim (is_mark_text m) as (λ b. (b && are_marks ms) ≡ true → are_marks ms ≡ true) [ true ↦ λ h. h | false ↦ λ h. absurd cc ] e
 
-pub phrase_of_form : (ms : List (List ℕ)) → are_marks ms ≡ true → IsForm (λ (u : Unit {0}). map mark ms) all_values any (phrase_of ms)
+pub phrase_of_form : (ms : List (List ℕ)) → are_marks ms ≡ true
+    → IsForm (λ (u : Unit {0}). map mark ms) all_values any (phrase_of ms)
 unfolding phrase_of nothing
-phrase_of_form [] known = same_form (λ (u : Unit {0}). []) all_values (λ x v. refl) (λ x v. tt) (λ x v. refl) (nothing_form (λ (u : Unit {0}). []) any tt refl)
+phrase_of_form [] known =
+    same_form (λ (u : Unit {0}). []) all_values (λ x v. refl) (λ x v. tt) (λ x v. refl) (nothing_form (λ (u : Unit {0}). []) any tt refl)
 phrase_of_form (m ∷ ms) known =
     made_form (s2 (λ (u : Unit {0}). mark m ∷ []) (λ u (w : Unit {0}). map mark ms)) (V2 all_values (λ u. all_values)) (λ (u : Unit {0}). map mark (m ∷ ms)) all_values any (λ x. tt) (both (one (the_mark m)) (λ x. phrase_of ms))
     (λ x v. refl) (λ x v. tt) (λ y v. ((tt, tt), (tt, tt), refl))
     (then_any (one_form (the_mark m) (λ u. mark m) all_values (mark_to m) (mark_from m)) (λ u. phrase_of_form ms (later m ms known)) (λ u v r. record { value = tt; valid = tt; right = right_marks ms (later m ms known) }))
 
-pub phrase_form : (text : List ℕ) → are_marks (split text) ≡ true → IsForm (λ (u : Unit {0}). marks text) all_values any (phrase text)
+pub phrase_form : (text : List ℕ) → are_marks (split text) ≡ true
+    → IsForm (λ (u : Unit {0}). marks text) all_values any (phrase text)
 phrase_form text known = phrase_of_form (split text) known
 
-pub closed_form : {X : Type 0} {s : X → List Token} {V : X → Type 0} {g : Token → Bool} {p : Reader X} (text : List ℕ) → are_marks (split text) ≡ true → Leads g (marks text) → IsForm s V g p → IsForm (λ x. s x ++ marks text) V any (closed p text)
+pub closed_form : {X : Type 0} {s : X → List Token} {V : X → Type 0} {g : Token → Bool} {p : Reader X} (text : List ℕ)
+    → are_marks (split text) ≡ true → Leads g (marks text) → IsForm s V g p
+    → IsForm (λ x. s x ++ marks text) V any (closed p text)
 closed_form {X} {s = s} {V = V} {g = g} {p = p} text known leads one =
     made_form (s2 s (λ x (u : Unit {0}). marks text)) (V2 V (λ x. all_values)) (λ x. s x ++ marks text) V any (λ (x : X × Unit {0}). x.0) (both p (λ x. phrase text))
     (λ x v. refl) (λ x v. v.0) (λ y v. ((y, tt), (v, tt), refl))
     (then_led one (λ x. phrase_form text known) (λ x v r. record { value = tt; valid = tt; right = right_marks (split text) known }) (λ x y v w. leads))
 
-pub opened_form : {X : Type 0} {s : X → List Token} {V : X → Type 0} {f : Token → Bool} {p : Reader X} (text : List ℕ) → are_marks (split text) ≡ true → Example s V → IsForm s V f p → IsForm (λ x. marks text ++ s x) V f (opened text p)
+pub opened_form : {X : Type 0} {s : X → List Token} {V : X → Type 0} {f : Token → Bool} {p : Reader X} (text : List ℕ)
+    → are_marks (split text) ≡ true → Example s V → IsForm s V f p → IsForm (λ x. marks text ++ s x) V f (opened text p)
 opened_form {X} {s = s} {V = V} {f = f} {p = p} text known example one =
     made_form (s2 (λ (u : Unit {0}). marks text) (λ u. s)) (V2 all_values (λ u. V)) (λ x. marks text ++ s x) V f (λ (x : Unit {0} × X). x.1) (both (phrase text) (λ u. p))
     (λ x v. refl) (λ x v. v.1) (λ y v. ((tt, y), (tt, v), refl))
@@ -163,7 +176,8 @@ a_const = record { width = 1; value = 0 }
 abbrev Looked : {X : Type 0} → List ℕ → List ℕ → X → Option X → X → Type 0
 Looked k m x rest y = ((k ≡ m) × (x ≡ y)) ⊎ (rest ≡ Some y)
 
-looked : {X : Type 0} (k m : List ℕ) (x : X) (rest : Option X) (y : X) → cond (bytes_eq k m) (Some x) rest ≡ Some y → Looked k m x rest y
+looked : {X : Type 0} (k m : List ℕ) (x : X) (rest : Option X) (y : X) → cond (bytes_eq k m) (Some x) rest ≡ Some y
+    → Looked k m x rest y
 looked k m x rest y e =
     elim (bytes_eq k m) as (λ b. bytes_eq k m ≡ b → cond b (Some x) rest ≡ Some y → Looked k m x rest y) [
       | true ↦ λ is h. inl (bytes_same k m is, cc h)

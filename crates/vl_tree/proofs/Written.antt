@@ -238,10 +238,14 @@ mutual
   expr_says : (e : Expr) → AreTokens (expr_tokens e) → Says Open (expr_text e) (expr_tokens e)
   expr_says (net n) r = name_says n r.0
   expr_says (number k) r = const_says k r.0
-  expr_says (bit n i) r = open_then (name_says n r.0) refl (any_then lit_bracket (open_then (plain_says i r.1.1.0) refl (loosen lit_close)))
-  expr_says (part n h l) r = open_then (name_says n r.0) refl (any_then lit_bracket (open_then (plain_says h r.1.1.0) refl (any_then lit_colon (open_then (plain_says l r.1.1.1.1.0) refl (loosen lit_close)))))
-  expr_says (word n e) r = open_then (name_says n r.0) refl (any_then lit_bracket (open_then (expr_says e (right_front (expr_tokens e) (marks (codes "]")) r.1.1)) refl (loosen lit_close)))
-  expr_says (not e) r = any_then lit_tilde (open_then (expr_says e (right_front (expr_tokens e) (marks (codes ")")) r.1.1)) refl (loosen lit_unparen))
+  expr_says (bit n i) r =
+      open_then (name_says n r.0) refl (any_then lit_bracket (open_then (plain_says i r.1.1.0) refl (loosen lit_close)))
+  expr_says (part n h l) r =
+      open_then (name_says n r.0) refl (any_then lit_bracket (open_then (plain_says h r.1.1.0) refl (any_then lit_colon (open_then (plain_says l r.1.1.1.1.0) refl (loosen lit_close)))))
+  expr_says (word n e) r =
+      open_then (name_says n r.0) refl (any_then lit_bracket (open_then (expr_says e (right_front (expr_tokens e) (marks (codes "]")) r.1.1)) refl (loosen lit_close)))
+  expr_says (not e) r =
+      any_then lit_tilde (open_then (expr_says e (right_front (expr_tokens e) (marks (codes ")")) r.1.1)) refl (loosen lit_unparen))
   expr_says (two op a b) r =
       let all : List Token = op_mark op ∷ (expr_tokens b ++ marks (codes ")")) in
       let tail : AreTokens all = right_rest (expr_tokens a) all r.1 in
@@ -260,23 +264,30 @@ mutual
 
   more_says : (es : Exprs) → AreTokens (more_tokens es) → Says Open (more_text es) (more_tokens es)
   more_says no_parts r = loosen lit_unbrace
-  more_says (parts e es) r = any_then lit_comma (open_then (expr_says e (right_front (expr_tokens e) (more_tokens es) r.1)) (more_starts es) (more_says es (right_rest (expr_tokens e) (more_tokens es) r.1)))
+  more_says (parts e es) r =
+      any_then lit_comma (open_then (expr_says e (right_front (expr_tokens e) (more_tokens es) r.1)) (more_starts es) (more_says es (right_rest (expr_tokens e) (more_tokens es) r.1)))
 
 -- ---- items
 
-ended_says : (e : Expr) → AreTokens (expr_tokens e ++ marks (codes ";")) → Says Any (expr_text e ++ codes ";\n") (expr_tokens e ++ marks (codes ";"))
+ended_says : (e : Expr) → AreTokens (expr_tokens e ++ marks (codes ";"))
+    → Says Any (expr_text e ++ codes ";\n") (expr_tokens e ++ marks (codes ";"))
 ended_says e r = open_then (expr_says e (right_front (expr_tokens e) (marks (codes ";")) r)) refl lit_semi
 
-ranged_says : (h : ℕ) (n : Name) → h < 10 ^ 9 → IsToken (name n) → Says Open (ranged_text h n) (range_tokens h ++ (name n ∷ []))
-ranged_says h n small right = any_then lit_bracket (open_then (plain_says h small) refl (any_then lit_range (name_says n right)))
+ranged_says : (h : ℕ) (n : Name) → h < 10 ^ 9 → IsToken (name n)
+    → Says Open (ranged_text h n) (range_tokens h ++ (name n ∷ []))
+ranged_says h n small right =
+    any_then lit_bracket (open_then (plain_says h small) refl (any_then lit_range (name_says n right)))
 
 item_says : (x : Item) → AreTokens (item_tokens x) → Says Any (item_text x) (item_tokens x)
 item_says (wire h n) r = any_then lit_wire (open_then (ranged_says h n r.1.1.0 r.1.1.1.1.1.1.0) refl lit_semi)
 item_says (reg h n) r = any_then lit_reg (open_then (ranged_says h n r.1.1.0 r.1.1.1.1.1.1.0) refl lit_semi)
-item_says (mem h n last) r = any_then lit_reg (open_then (ranged_says h n r.1.1.0 r.1.1.1.1.1.1.0) refl (any_then lit_zero (open_then (plain_says last r.1.1.1.1.1.1.1.1.1.1.0) refl lit_to_last)))
-item_says (assign n e) r = any_then lit_assign (open_then (name_says n r.1.0) refl (any_then lit_is (ended_says e r.1.1.1)))
+item_says (mem h n last) r =
+    any_then lit_reg (open_then (ranged_says h n r.1.1.0 r.1.1.1.1.1.1.0) refl (any_then lit_zero (open_then (plain_says last r.1.1.1.1.1.1.1.1.1.1.0) refl lit_to_last)))
+item_says (assign n e) r =
+    any_then lit_assign (open_then (name_says n r.1.0) refl (any_then lit_is (ended_says e r.1.1.1)))
 item_says (clocked n k e) r =
-    let q : AreTokens (name n ∷ (marks (codes "<=") ++ (const_token k ∷ (marks (codes "; else") ++ (name n ∷ (marks (codes "<=") ++ (expr_tokens e ++ marks (codes ";")))))))) = r.1.1.1.1.1.1.1.1.1.1 in
+    let q : AreTokens (name n ∷ (marks (codes "<=") ++ (const_token k ∷ (marks (codes "; else") ++ (name n ∷ (marks (codes "<=") ++ (expr_tokens e ++ marks (codes ";")))))))) =
+    r.1.1.1.1.1.1.1.1.1.1 in
     any_then lit_always_rst (open_then (name_says n q.0) refl (any_then lit_gets (open_then (const_says k q.1.1.0) refl
     (any_then lit_or_else (open_then (name_says n q.0) refl (any_then lit_gets (ended_says e q.1.1.1.1.1.1.1)))))))
 item_says (store c n i e) r =
@@ -295,9 +306,11 @@ item_says (store c n i e) r =
 nothing_says : Says Any [] []
 nothing_says = record { clean = refl; reads = λ rest u. refl; whole = λ rest u. refl }
 
-each_says : {A : Type 0} (f : A → List ℕ) (s : A → List Token) → ((x : A) → AreTokens (s x) → Says Any (f x) (s x)) → (xs : List A) → AreTokens (each s xs) → Says Any (each_text f xs) (each s xs)
+each_says : {A : Type 0} (f : A → List ℕ) (s : A → List Token) → ((x : A) → AreTokens (s x) → Says Any (f x) (s x))
+    → (xs : List A) → AreTokens (each s xs) → Says Any (each_text f xs) (each s xs)
 each_says f s one [] r = nothing_says
-each_says f s one (x ∷ xs) r = any_then (one x (right_front (s x) (each s xs) r)) (each_says f s one xs (right_rest (s x) (each s xs) r))
+each_says f s one (x ∷ xs) r =
+    any_then (one x (right_front (s x) (each s xs) r)) (each_says f s one xs (right_rest (s x) (each s xs) r))
 
 -- ports with the text that closes them, which may stand behind a word
 port_says : (p : Port) → AreTokens (port_tokens p) → Says Open (port_text p) (port_tokens p)
@@ -311,20 +324,24 @@ port_starts p bs = elim p.output as (λ o. Starts ((way_text o ++ ranged_text p.
 
 ports_start : (ps : List Port) → Starts (each_text port_text ps ++ codes "\n);\n")
 ports_start [] = refl
-ports_start (p ∷ ps) = subst Starts (sym (append_assoc (port_text p) (each_text port_text ps) (codes "\n);\n"))) (port_starts p (each_text port_text ps ++ codes "\n);\n"))
+ports_start (p ∷ ps) =
+    subst Starts (sym (append_assoc (port_text p) (each_text port_text ps) (codes "\n);\n"))) (port_starts p (each_text port_text ps ++ codes "\n);\n"))
 
-ports_says : (ps : List Port) → AreTokens (each port_tokens ps ++ marks (codes ") ;")) → Says Any (each_text port_text ps ++ codes "\n);\n") (each port_tokens ps ++ marks (codes ") ;"))
+ports_says : (ps : List Port) → AreTokens (each port_tokens ps ++ marks (codes ") ;"))
+    → Says Any (each_text port_text ps ++ codes "\n);\n") (each port_tokens ps ++ marks (codes ") ;"))
 ports_says [] r = lit_head_end
 ports_says (p ∷ ps) r =
     let whole = subst AreTokens (append_assoc (port_tokens p) (each port_tokens ps) (marks (codes ") ;"))) r in
     let one = port_says p (right_front (port_tokens p) (each port_tokens ps ++ marks (codes ") ;")) whole) in
     let more = ports_says ps (right_rest (port_tokens p) (each port_tokens ps ++ marks (codes ") ;")) whole) in
-    let both : Says Any (port_text p ++ (each_text port_text ps ++ codes "\n);\n")) (port_tokens p ++ (each port_tokens ps ++ marks (codes ") ;"))) = open_then one (ports_start ps) more in
+    let both : Says Any (port_text p ++ (each_text port_text ps ++ codes "\n);\n")) (port_tokens p ++ (each port_tokens ps ++ marks (codes ") ;"))) =
+    open_then one (ports_start ps) more in
     subst (λ ts. Says Any (each_text port_text (p ∷ ps) ++ codes "\n);\n") ts) (sym (append_assoc (port_tokens p) (each port_tokens ps) (marks (codes ") ;"))))
     (subst (λ bs. Says Any bs (port_tokens p ++ (each port_tokens ps ++ marks (codes ") ;")))) (sym (append_assoc (port_text p) (each_text port_text ps) (codes "\n);\n"))) both)
 
 head_says : (ps : List Port) → AreTokens (head_tokens ps) → Says Any (head_text ps) (head_tokens ps)
-head_says ps r = open_then lit_head (ports_start ps) (ports_says ps (right_rest (marks (codes "( input wire clk , input wire rst")) (each port_tokens ps ++ marks (codes ") ;")) r))
+head_says ps r =
+    open_then lit_head (ports_start ps) (ports_says ps (right_rest (marks (codes "( input wire clk , input wire rst")) (each port_tokens ps ++ marks (codes ") ;")) r))
 
 leaf_says : (l : values.Leaf) → AreTokens (leaf_tokens l) → Says Any (leaf_text l) (leaf_tokens l)
 leaf_says l r =
@@ -335,7 +352,8 @@ leaf_says l r =
     (any_then (each_says item_text item_tokens item_says l.items (right_front (each item_tokens l.items) (marks (codes "endmodule")) q1)) lit_end)))
 
 join_says : (j : Join) → AreTokens (join_tokens j) → Says Any (join_text j) (join_tokens j)
-join_says j r = any_then lit_join (open_then (name_says j.port r.1.1.0) refl (any_then lit_paren (open_then (name_says j.net r.1.1.1.1.0) refl lit_unparen)))
+join_says j r =
+    any_then lit_join (open_then (name_says j.port r.1.1.0) refl (any_then lit_paren (open_then (name_says j.net r.1.1.1.1.0) refl lit_unparen)))
 
 top_item_says : (x : TopItem) → AreTokens (top_item_tokens x) → Says Any (top_item_text x) (top_item_tokens x)
 top_item_says (Wire h n) r = any_then lit_wire (open_then (ranged_says h n r.1.1.0 r.1.1.1.1.1.1.0) refl lit_semi)
@@ -357,8 +375,10 @@ top_says t r =
 pub text_spells : (d : Design) → IsPlain d → Spells (design_text d) d
 unfolding tokens_behind unread_behind
 text_spells d p =
-    let leaves = each_says leaf_text leaf_tokens leaf_says d.leaves (right_front (each leaf_tokens d.leaves) (top_tokens d.top) p.tokens) in
-    let all : Says Any (design_text d) (design_tokens d) = any_then leaves (top_says d.top (right_rest (each leaf_tokens d.leaves) (top_tokens d.top) p.tokens)) in
+    let leaves =
+    each_says leaf_text leaf_tokens leaf_says d.leaves (right_front (each leaf_tokens d.leaves) (top_tokens d.top) p.tokens) in
+    let all : Says Any (design_text d) (design_tokens d) =
+    any_then leaves (top_says d.top (right_rest (each leaf_tokens d.leaves) (top_tokens d.top) p.tokens)) in
     record {
       clean = all.clean;
       whole = ap unread (sym (append-nil (design_text d))) ∙ all.whole [] tt;

@@ -22,6 +22,7 @@ abbrev pub each : {A : Type 0} → (A → List Token) → List A → List Token
 each f [] = []
 each f (x ∷ xs) = f x ++ each f xs
 
+-- the symbol of an operator
 abbrev pub op_mark : Op → Token
 op_mark Add = mark (codes "+")
 op_mark Sub = mark (codes "-")
@@ -31,6 +32,7 @@ op_mark Xor = mark (codes "^")
 op_mark Equal = mark (codes "==")
 op_mark Less = mark (codes "<")
 
+-- a constant, by its width and value
 abbrev pub const_token : Const → Token
 const_token k = sized k.width k.value
 
@@ -78,9 +80,11 @@ abbrev mutual
 unfoldable pub limit : ℕ
 limit = 200
 
+-- the range from bit high down to bit 0
 abbrev pub range_tokens : ℕ → List Token
 range_tokens high = marks (codes "[") ++ (plain high ∷ (marks (codes ":") ++ (plain 0 ∷ marks (codes "]"))))
 
+-- an item of a leaf
 abbrev pub item_tokens : Item → List Token
 item_tokens (wire h n) = marks (codes "wire") ++ (range_tokens h ++ (name n ∷ marks (codes ";")))
 item_tokens (reg h n) = marks (codes "reg") ++ (range_tokens h ++ (name n ∷ marks (codes ";")))
@@ -98,6 +102,7 @@ item_tokens (store c n i e) = marks (codes "always @ ( posedge clk ) if (")
     ++ (name n ∷ (marks (codes "[") ++ (expr_tokens i
     ++ (marks (codes "] <=") ++ (expr_tokens e ++ marks (codes ";"))))))))
 
+-- each whole expression of the item is within the limit
 abbrev pub ItemFits : Item → Type 0
 ItemFits (wire h n) = Unit {0}
 ItemFits (reg h n) = Unit {0}
@@ -106,6 +111,7 @@ ItemFits (assign n e) = Fits limit e
 ItemFits (clocked n r e) = Fits limit e
 ItemFits (store c n i e) = Fits limit c × Fits limit i × Fits limit e
 
+-- the word for a port's direction
 abbrev pub way_mark : Bool → Token
 way_mark true = mark (codes "output")
 way_mark false = mark (codes "input")
@@ -119,6 +125,7 @@ port_tokens p = marks (codes ",") ++ (way_mark p.output
 abbrev pub head_tokens : List Port → List Token
 head_tokens ports = marks (codes "( input wire clk , input wire rst") ++ (each port_tokens ports ++ marks (codes ") ;"))
 
+-- a leaf, from its word module on
 abbrev pub leaf_tokens : values.Leaf → List Token
 leaf_tokens l = marks (codes "module") ++ (name l.name
     ∷ (head_tokens l.ports ++ (each item_tokens l.items ++ marks (codes "endmodule"))))
@@ -127,18 +134,22 @@ leaf_tokens l = marks (codes "module") ++ (name l.name
 abbrev pub join_tokens : Join → List Token
 join_tokens j = marks (codes ", .") ++ (name j.port ∷ (marks (codes "(") ++ (name j.net ∷ marks (codes ")"))))
 
+-- a wire of the top, or an instance, whose joins of clk and rst come first
 abbrev pub top_item_tokens : TopItem → List Token
 top_item_tokens (Wire h n) = marks (codes "wire") ++ (range_tokens h ++ (name n ∷ marks (codes ";")))
 top_item_tokens (Instance l n joins) = name l
     ∷ (name n ∷ (marks (codes "( . clk ( clk ) , . rst ( rst )") ++ (each join_tokens joins ++ marks (codes ") ;"))))
 
+-- the top, a module of the name noc
 abbrev pub top_tokens : Top → List Token
 top_tokens t = marks (codes "module noc") ++ (head_tokens t.ports
     ++ (each top_item_tokens t.items ++ marks (codes "endmodule")))
 
+-- all leaves, and then the top
 abbrev pub design_tokens : Design → List Token
 design_tokens d = each leaf_tokens d.leaves ++ top_tokens d.top
 
+-- each whole expression of the leaf is within the limit
 abbrev pub LeafFits : values.Leaf → Type 0
 LeafFits l = AllByRecursion ItemFits l.items
 

@@ -16,6 +16,7 @@ abbrev pub each_text : {A : Type 0} → (A → List ℕ) → List A → List ℕ
 each_text f [] = []
 each_text f (x ∷ xs) = f x ++ each_text f xs
 
+-- an operator between spaces
 abbrev pub op_text : Op → List ℕ
 op_text Add = codes " + "
 op_text Sub = codes " - "
@@ -25,9 +26,11 @@ op_text Xor = codes " ^ "
 op_text Equal = codes " == "
 op_text Less = codes " < "
 
+-- a constant: its width, and its value in decimal
 abbrev pub const_text : Const → List ℕ
 const_text k = decimal k.width ++ (codes "'d" ++ decimal k.value)
 
+-- an expression; a concatenation's parts behind the first one, with the brace that closes them
 abbrev mutual
   pub expr_text : Expr → List ℕ
   expr_text (net n) = n
@@ -50,6 +53,7 @@ abbrev mutual
 abbrev pub ranged_text : ℕ → Name → List ℕ
 ranged_text high n = codes "[" ++ (decimal high ++ (codes ":0] " ++ n))
 
+-- an item of a leaf, on its own line
 abbrev pub item_text : Item → List ℕ
 item_text (wire h n) = codes "  wire " ++ (ranged_text h n ++ codes ";\n")
 item_text (reg h n) = codes "  reg " ++ (ranged_text h n ++ codes ";\n")
@@ -62,30 +66,38 @@ item_text (store c n i e) = codes "  always @(posedge clk) if ("
     ++ (expr_text c ++ (codes ") " ++ (n ++ (codes "["
     ++ (expr_text i ++ (codes "] <= " ++ (expr_text e ++ codes ";\n")))))))
 
+-- the comma that ends the line before, and the direction that begins a port's line
 abbrev pub way_text : Bool → List ℕ
 way_text true = codes ",\n  output wire "
 way_text false = codes ",\n  input wire "
 
+-- a port, on its own line
 abbrev pub port_text : Port → List ℕ
 port_text p = way_text p.output ++ ranged_text p.high p.name
 
+-- what stands between a module's name and its items
 abbrev pub head_text : List Port → List ℕ
 head_text ports = codes " (\n  input wire clk,\n  input wire rst" ++ (each_text port_text ports ++ codes "\n);\n")
 
+-- a leaf
 abbrev pub leaf_text : values.Leaf → List ℕ
 leaf_text l = codes "module " ++ (l.name ++ (head_text l.ports ++ (each_text item_text l.items ++ codes "endmodule\n")))
 
+-- a join, on its own line, four spaces in
 abbrev pub join_text : Join → List ℕ
 join_text j = codes ",\n    ." ++ (j.port ++ (codes "(" ++ (j.net ++ codes ")")))
 
+-- a wire of the top on its own line, or an instance with its joins
 abbrev pub top_item_text : TopItem → List ℕ
 top_item_text (Wire h n) = codes "  wire " ++ (ranged_text h n ++ codes ";\n")
 top_item_text (Instance l n joins) = codes "  "
     ++ (l ++ (codes " " ++ (n ++ (codes " (\n    .clk(clk),\n    .rst(rst)"
     ++ (each_text join_text joins ++ codes "\n  );\n")))))
 
+-- the top
 abbrev pub top_text : Top → List ℕ
 top_text t = codes "module noc" ++ (head_text t.ports ++ (each_text top_item_text t.items ++ codes "endmodule\n"))
 
+-- all leaves, and then the top
 abbrev pub design_text : Design → List ℕ
 design_text d = each_text leaf_text d.leaves ++ top_text d.top

@@ -8,6 +8,7 @@ use Rattle.vl_tree.specs.declared.tree.Leaf as leaves
 use Rattle.vl_tree.specs.declared.tree.Design as designs
 use Rattle.vl_tree.specs.Values.{Expr, Exprs, net, number, bit, part, word, not, two, choose, cat, no_parts, parts, Item, wire, reg, mem, assign, clocked, store, Leaf, Design}
 
+-- a list of expressions, as the parts of a concatenation
 abbrev pub parts_of : List Expr → Exprs
 parts_of [] = no_parts
 parts_of (e ∷ es) = parts e (parts_of es)
@@ -24,12 +25,15 @@ read_step (Expr-F.Two op a b) = two op a b
 read_step (Expr-F.If c a b) = choose c a b
 read_step (Expr-F.Cat es) = cat (parts_of es)
 
+-- the expression that one of the code stands for
 abbrev pub read : code.Expr → Expr
 read = code.fold-Expr Expr read_step
 
+-- the parts of a concatenation, for a list of expressions of the code
 abbrev pub reads : List code.Expr → Exprs
 reads es = parts_of (map read es)
 
+-- the item that one of the code stands for
 abbrev pub read_item : LeafItem → Item
 read_item (items.Wire h n) = wire h n
 read_item (items.Reg h n) = reg h n
@@ -38,14 +42,18 @@ read_item (items.Assign n e) = assign n (read e)
 read_item (items.Clocked n r e) = clocked n r (read e)
 read_item (items.Store c n i e) = store (read c) n (read i) (read e)
 
+-- its items, in order
 abbrev pub read_items : List LeafItem → List Item
 read_items is = map read_item is
 
+-- the leaf that one of the code stands for
 abbrev pub read_leaf : leaves.Leaf → Leaf
 read_leaf l = record { name = l.name; ports = l.ports; items = read_items l.items }
 
+-- its leaves, in order
 abbrev pub read_leaves : List leaves.Leaf → List Leaf
 read_leaves ls = map read_leaf ls
 
+-- the design that one of the code stands for
 abbrev pub read_design : designs.Design → Design
 read_design d = record { leaves = read_leaves d.leaves; top = d.top }

@@ -5,6 +5,7 @@ use Rattle.vl_tree.specs.Values.{Design}
 use Rattle.vl_tree.specs.Tokens.{Token, Placed, AreTokens, tokens_of, unread}
 use Rattle.vl_tree.specs.Grammar.{design_tokens, DesignFits}
 
+-- the tokens alone, without their places
 abbrev pub text_of : List Placed → List Token
 text_of ts = map (λ t. t.token) ts
 
@@ -61,6 +62,7 @@ GrammarPlace bytes place =
     × Begins (text_of before) × (Begins (text_of before ++ (t.token ∷ [])) → ⊥))
     ⊎ ((place ≡ length bytes) × Begins (text_of (tokens_of bytes)) × IsNoText (text_of (tokens_of bytes)))
 
+-- the bytes are pieces, and their tokens are no text of the grammar
 pub record GrammarFault (bytes : List ℕ) (place : ℕ) : Type 0 where
   pub clean : IsTrue (list_all is_text_byte bytes)
   pub whole : unread bytes ≡ 0

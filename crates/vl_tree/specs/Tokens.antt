@@ -16,9 +16,11 @@ pub record Piece : Type 0 where
   pub token : Option Token
   pub len : ℕ
 
+-- a token of n bytes
 abbrev pub piece : Token → ℕ → Option Piece
 piece t n = Some (record { token = Some t; len = n })
 
+-- a blank or a comment of n bytes
 abbrev pub gap : ℕ → Piece
 gap n = record { token = None; len = n }
 
@@ -27,11 +29,12 @@ abbrev pub next_is : ℕ → List ℕ → Bool
 next_is b [] = false
 next_is b (c ∷ cs) = c == b
 
--- the parts of a text between single spaces
+-- one byte more at the front of the first part
 abbrev pub with_first : ℕ → List (List ℕ) → List (List ℕ)
 with_first b [] = (b ∷ []) ∷ []
 with_first b (x ∷ xs) = (b ∷ x) ∷ xs
 
+-- the parts of a text between single spaces
 abbrev pub split : List ℕ → List (List ℕ)
 split [] = [] ∷ []
 split (b ∷ bs) = if b == 32 then [] ∷ split bs else with_first b (split bs)
@@ -56,6 +59,7 @@ comment_at bs =
 
 -- ---- words, names and numbers
 
+-- an ASCII letter
 abbrev pub is_letter : ℕ → Bool
 is_letter b = (nat_le 65 b && nat_le b 90) || (nat_le 97 b && nat_le b 122)
 
@@ -63,21 +67,25 @@ is_letter b = (nat_le 65 b && nat_le b 90) || (nat_le 97 b && nat_le b 122)
 abbrev pub is_run : ℕ → Bool
 is_run b = is_letter b || is_ascii_digit b || (b == 95)
 
+-- the words of the grammar, none of which is a name
 abbrev pub words : List (List ℕ)
 words = split (codes "module endmodule input output wire reg assign always posedge if else clk rst noc")
 
+-- whether a run is one of these words
 abbrev pub is_word : List ℕ → Bool
 is_word r = list_any (bytes_eq r) words
 
--- at most 64 letters, digits and underscores, at first a letter, with an underscore and a digit
+-- what stands behind the first letter of a name
 abbrev pub is_name_rest : List ℕ → Bool
 is_name_rest bs = list_all is_run bs && nat_lt (length bs) 64 && list_any (λ c. c == 95) bs
     && list_any is_ascii_digit bs
 
+-- at most 64 letters, digits and underscores, at first a letter, with an underscore and a digit
 abbrev pub is_name : List ℕ → Bool
 is_name [] = false
 is_name (b ∷ bs) = is_letter b && is_name_rest bs
 
+-- digits of the base alone
 abbrev pub all_digits : ℕ → List ℕ → Bool
 all_digits base ds = list_all (λ d. is_digit d base) ds
 
@@ -108,10 +116,11 @@ sized_at w (b ∷ ds) after =
     then piece (sized (digits_value 10 w) (digits_value (base_of b) ds)) (length w + length ds + 2)
     else None
 
--- the longest run of letters, digits and underscores at the front, and what is behind it
+-- the longest run of letters, digits and underscores at the front
 abbrev pub run_of : List ℕ → List ℕ
 run_of bs = take_while is_run bs
 
+-- what stands behind that run
 abbrev pub after_run : List ℕ → List ℕ
 after_run bs = drop (length (run_of bs)) bs
 
@@ -126,9 +135,11 @@ run_at r after =
 
 -- ---- symbols
 
+-- whether a byte is a symbol by itself
 abbrev pub is_symbol : ℕ → Bool
 is_symbol b = list_any (λ c. c == b) (codes "()[]{};:,.@+-&|^~?<=")
 
+-- the longest symbol at the front, of which only <= and == take two bytes
 abbrev pub symbol_at : ℕ → List ℕ → Option Piece
 symbol_at b bs =
     if ((b == 60) || (b == 61)) && next_is 61 bs then piece (mark (b ∷ 61 ∷ [])) 2
@@ -151,10 +162,12 @@ pub record Placed : Type 0 where
   pub token : Token
   pub left : ℕ
 
+-- the tokens behind a piece, and before them the piece's own token if it has one
 abbrev pub with_token : Option Token → ℕ → List Placed → List Placed
 with_token None n ts = ts
 with_token (Some t) n ts = record { token = t; left = n } ∷ ts
 
+-- the tokens from the place of a piece on, at which n bytes are left: none where no piece begins
 abbrev pub pieced : Option Piece → ℕ → (ℕ → List Placed) → List Placed
 pieced None n rest = []
 pieced (Some p) n rest = with_token p.token n (rest (p.len - 1))
@@ -169,10 +182,12 @@ tokens_behind (suc k) (b ∷ bs) = tokens_behind k bs
 abbrev pub tokens_of : List ℕ → List Placed
 tokens_of bytes = tokens_behind 0 bytes
 
+-- the unread bytes from the place of a piece on, at which n bytes are left: all of them where no piece begins
 abbrev pub unread_at : Option Piece → ℕ → (ℕ → ℕ) → ℕ
 unread_at None n rest = n
 unread_at (Some p) n rest = rest (p.len - 1)
 
+-- the unread bytes, where k more bytes belong to the piece before
 unfoldable pub unread_behind : ℕ → List ℕ → ℕ
 unread_behind k [] = 0
 unread_behind zero (b ∷ bs) = unread_at (piece_at (b ∷ bs)) (length bs + 1) (λ k. unread_behind k bs)
@@ -184,21 +199,27 @@ unread bytes = unread_behind 0 bytes
 
 -- ---- what a token can be
 
+-- the symbols, of one byte or two
 abbrev pub symbols : List (List ℕ)
 symbols = split (codes "( ) [ ] { } ; : , . @ = + - & | ^ ~ ? < <= ==")
 
+-- a word or a symbol
 abbrev pub is_mark_text : List ℕ → Bool
 is_mark_text m = is_word m || list_any (bytes_eq m) symbols
 
+-- the test passes
 abbrev pub Holds : Bool → Type 0
 Holds true = Unit {0}
 Holds false = ⊥
 
+-- the token can stand in a text: a word or symbol of the grammar, a name, a number of at most nine digits, or a
+-- constant of 1 to 64 bits whose value fits them
 abbrev pub IsToken : Token → Type 0
 IsToken (mark m) = Holds (is_mark_text m)
 IsToken (name n) = IsTrue (is_name n)
 IsToken (plain v) = v < 10 ^ 9
 IsToken (sized w v) = (0 < w) × (w ≤ 64) × (v < 2 ^ w)
 
+-- each of these tokens can stand in a text
 abbrev pub AreTokens : List Token → Type 0
 AreTokens ts = AllByRecursion IsToken ts

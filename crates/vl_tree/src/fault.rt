@@ -7,40 +7,40 @@ use thiserror::Error;
 /// the number of an item, or for `Ports` a position in the top's port list, all from 0.
 #[derive(Debug, Drop, Error)]
 pub enum TextFault {
-    /// A byte is no tab, LF, CR or printable ASCII character.
+    /// A control character other than tab, LF and CR, or a byte beyond ASCII.
     #[error("byte {0} is not allowed in a text")]
     Byte(u64),
-    /// After the tokens so far no token and no whole comment begins.
+    /// What begins here is no blank, no token and no closed comment.
     #[error("no token begins at byte {0}")]
     Token(u64),
-    /// The token doesn't continue any text of the grammar, or the text ends too early.
+    /// No text of the grammar goes on with this token, or the text ends too early.
     #[error("the grammar has no token of this kind at byte {0}")]
     Grammar(u64),
-    /// The item declares a name that its scope has already.
+    /// A name is declared for the second time in its scope.
     #[error("item {0} declares a name again")]
     NameTwice(u64),
-    /// The item uses a name that isn't declared in the right way before it.
+    /// A name is used that no line above declares, or that stands for another kind of thing.
     #[error("item {0} uses an undeclared name")]
     NameUnknown(u64),
-    /// A width isn't 1 to 64, or two widths don't agree.
+    /// More than 64 bits, a bit outside its net, or two widths that should be equal and differ.
     #[error("item {0} has a wrong width")]
     Width(u64),
-    /// An assign reads what no earlier item assigns.
+    /// An assign reads a wire or an output port whose own assign doesn't stand above it.
     #[error("item {0} reads a net before its assign")]
     Order(u64),
-    /// The declared net, register or memory isn't driven exactly once.
+    /// The wire, output port, register or memory has no driver, or more than one.
     #[error("the net, register or memory of item {0} has no single driver")]
     Driver(u64),
-    /// The output port depends on an input port within a cycle.
+    /// Within a cycle the output port is a function of an input port.
     #[error("output port {0} depends on an input port within a cycle")]
     Mealy(u64),
-    /// A memory's size is wrong, or an index doesn't fit it.
+    /// A memory has another number of words than 2, 4, 8 and so on up to 1024, or an index isn't as wide as they need.
     #[error("item {0} has a wrong memory size or index")]
     MemSize(u64),
-    /// An instance doesn't join each port of its leaf exactly once.
+    /// An instance leaves a port of its leaf unjoined, or joins it twice.
     #[error("the instance of item {0} does not join each port once")]
     Instance(u64),
-    /// The top's ports aren't those of the plan.
+    /// The top's port list differs from the plan's at this position.
     #[error("port {0} of the top is not the plan's")]
     Ports(u64),
     /// Memory ran out, which says nothing of the text.

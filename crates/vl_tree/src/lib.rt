@@ -32,7 +32,7 @@ mod tests {
         Seq::from_slice(alloc, text)
     }
 
-    // A complement and a constant, in a row.
+    /// A complement and a constant, in a row.
     fn parts(alloc: Global, net: &[u8], value: u64) -> Result<Expr, AllocError> {
         let mut es = Items::new(alloc);
         let a = Boxed::new(alloc, Expr::Net(name(alloc, net)?))?;

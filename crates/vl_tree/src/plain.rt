@@ -29,7 +29,7 @@ fn constant(k: &Const) -> bool
     below(value, width)
 }
 
-// Whether a value has at most so many bits.
+/// Whether a value has at most so many bits.
 fn below(value: u64, width: u32) -> bool
     requires { width ≤ 64 }
     ensures { result ≡ nat_lt value (2 ^ width) }

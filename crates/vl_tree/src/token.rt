@@ -32,7 +32,7 @@ pub fn is_name(bytes: &[u8]) -> bool
     first && is_name_rest(&bytes[1..])
 }
 
-// What follows the first letter of a name.
+/// What follows the first letter of a name.
 fn is_name_rest(rest: &[u8]) -> bool
     ensures { result ≡ tokens.is_name_rest rest.now }
 {

@@ -42,20 +42,25 @@ modulo-earlier k t w some = go order
         let c : (w - t - 1) % k + k * ((w - t - 1) / k) ≡ w - t - 1 = mod-add-div (w - t - 1) k in
         let less : (w - t - 1) % k < k = mod-lt (w - t - 1) some in
         let within : k - 1 - (w - t - 1) % k < k = omega arith in
-        ap (λ z. modulo z k) down ∙ (sym (mod-eq_of_lt within) ∙ same-mod k (k - 1 - (w - t - 1) % k) (t % k + (k - w % k)) (w / k) (t / k + (w - t - 1) / k) (omega arith))
+        ap (λ z. modulo z k) down
+        ∙ (sym (mod-eq_of_lt within) ∙ same-mod k (k - 1 - (w - t - 1) % k) (t % k + (k - w % k)) (w / k) (t / k + (w - t - 1) / k) (omega arith))
 
 -- ---- the slots of a cycle
 
-pub owned-plus : (p : Plan) (n t i period h w slot : ℕ) → period ≡ length p.slots → 0 < length p.slots → h ≡ hop p → w ≡ wave p n
+pub owned-plus : (p : Plan) (n t i period h w slot : ℕ) → period ≡ length p.slots → 0 < length p.slots → h ≡ hop p
+    → w ≡ wave p n
     → slot ≡ (t % period + (period - h * w % period)) % period → slot ≡ slot_of p n (pos t) (Plus i)
 owned-plus p n t i period h w slot turns some hops waves is =
     let shift : h * w ≡ hop p * wave p n = cc in
-    is ∙ ap (λ k. (t % k + (k - h * w % k)) % k) turns ∙ ap (λ s. (t % length p.slots + (length p.slots - s % length p.slots)) % length p.slots) shift
+    is ∙ ap (λ k. (t % k + (k - h * w % k)) % k) turns
+    ∙ ap (λ s. (t % length p.slots + (length p.slots - s % length p.slots)) % length p.slots) shift
     ∙ sym (modulo-earlier (length p.slots) t (hop p * wave p n) some)
 
-pub owned-minus : (p : Plan) (n t i period h w slot : ℕ) → period ≡ length p.slots → 0 < length p.slots → h ≡ hop p → w ≡ wave p n
+pub owned-minus : (p : Plan) (n t i period h w slot : ℕ) → period ≡ length p.slots → 0 < length p.slots → h ≡ hop p
+    → w ≡ wave p n
     → slot ≡ (t % period + h * w % period) % period → slot ≡ slot_of p n (pos t) (Minus i)
 owned-minus p n t i period h w slot turns some hops waves is =
     let shift : h * w ≡ hop p * wave p n = cc in
-    is ∙ ap (λ k. (t % k + h * w % k) % k) turns ∙ ap (λ s. (t % length p.slots + s % length p.slots) % length p.slots) shift
+    is ∙ ap (λ k. (t % k + h * w % k) % k) turns
+    ∙ ap (λ s. (t % length p.slots + s % length p.slots) % length p.slots) shift
     ∙ sym (modulo-later (length p.slots) t (hop p * wave p n) some)

@@ -34,7 +34,8 @@ turn-mod k c t =
     same-mod k (c + t) (c + t % k) 0 (t / k) (omega arith)
 
 -- the slot t cycles later
-pub slot-turned : (p : Plan) (n t : ℕ) (z : ℤ) (w : Way) → w ≢ Local → 0 < length p.slots → slot_of p n (z +ℤ pos t) w ≡ (slot_of p n z w + t % length p.slots) % length p.slots
+pub slot-turned : (p : Plan) (n t : ℕ) (z : ℤ) (w : Way) → w ≢ Local → 0 < length p.slots
+    → slot_of p n (z +ℤ pos t) w ≡ (slot_of p n z w + t % length p.slots) % length p.slots
 slot-turned p n t z Local link some = absurd (link refl)
 slot-turned p n t z (Plus i) link some =
     let e : (z +ℤ pos t) -ℤ pos (hop p * wave p n) ≡ (z -ℤ pos (hop p * wave p n)) +ℤ pos t = omega (arith, ints) in
@@ -52,14 +53,17 @@ slot-below p n z (Minus i) some = modulo-below (length p.slots) (z +ℤ pos (hop
 
 -- ---- the slots before cycle 0, by natural numbers
 
-pub before-plus : (p : Plan) (n ago i period h w r : ℕ) → period ≡ length p.slots → 0 < length p.slots → h ≡ hop p → w ≡ wave p n
+pub before-plus : (p : Plan) (n ago i period h w r : ℕ) → period ≡ length p.slots → 0 < length p.slots → h ≡ hop p
+    → w ≡ wave p n
     → r ≡ (0 % period + (period - (ago + h * w) % period)) % period → r ≡ slot_of p n (pos 0 -ℤ pos ago) (Plus i)
 before-plus p n ago i period h w r turns some hops waves is =
     let x : h * w ≡ hop p * wave p n = cc in
-    let e : (pos 0 -ℤ pos ago) -ℤ pos (hop p * wave p n) ≡ pos 0 -ℤ pos (ago + hop p * wave p n) = omega (arith, ints) in
+    let e : (pos 0 -ℤ pos ago) -ℤ pos (hop p * wave p n) ≡ pos 0 -ℤ pos (ago + hop p * wave p n) =
+    omega (arith, ints) in
     is ∙ ap (λ k. (0 % k + (k - (ago + h * w) % k)) % k) turns
     ∙ ap (λ y. (0 % length p.slots + (length p.slots - (ago + y) % length p.slots)) % length p.slots) x
-    ∙ sym (modulo-earlier (length p.slots) 0 (ago + hop p * wave p n) some) ∙ sym (ap (λ y. modulo y (length p.slots)) e)
+    ∙ sym (modulo-earlier (length p.slots) 0 (ago + hop p * wave p n) some)
+    ∙ sym (ap (λ y. modulo y (length p.slots)) e)
 
 two-mods : (k x y : ℕ) → (x % k + y % k) % k ≡ (x + y) % k
 two-mods k x y =
@@ -67,12 +71,16 @@ two-mods k x y =
     let b : y % k + k * (y / k) ≡ y = mod-add-div y k in
     same-mod k (x % k + y % k) (x + y) (x / k + y / k) 0 (omega arith)
 
-pub before-minus : (p : Plan) (n ago i period h w c r : ℕ) → period ≡ length p.slots → 0 < length p.slots → h ≡ hop p → w ≡ wave p n
-    → c ≡ (0 % period + (period - ago % period)) % period → r ≡ (c % period + h * w % period) % period → r ≡ slot_of p n (pos 0 -ℤ pos ago) (Minus i)
+pub before-minus : (p : Plan) (n ago i period h w c r : ℕ) → period ≡ length p.slots → 0 < length p.slots → h ≡ hop p
+    → w ≡ wave p n
+    → c ≡ (0 % period + (period - ago % period)) % period → r ≡ (c % period + h * w % period) % period
+    → r ≡ slot_of p n (pos 0 -ℤ pos ago) (Minus i)
 before-minus p n ago i period h w c r turns some hops waves was is =
     let x : h * w ≡ hop p * wave p n = cc in
-    let y : c ≡ modulo (pos 0 -ℤ pos ago) (length p.slots) = was ∙ ap (λ k. (0 % k + (k - ago % k)) % k) turns ∙ sym (modulo-earlier (length p.slots) 0 ago some) in
-    is ∙ two-mods period c (h * w) ∙ ap (λ k. (c + h * w) % k) turns ∙ ap (λ v. (c + v) % length p.slots) x ∙ ap (λ v. (v + hop p * wave p n) % length p.slots) y
+    let y : c ≡ modulo (pos 0 -ℤ pos ago) (length p.slots) =
+    was ∙ ap (λ k. (0 % k + (k - ago % k)) % k) turns ∙ sym (modulo-earlier (length p.slots) 0 ago some) in
+    is ∙ two-mods period c (h * w) ∙ ap (λ k. (c + h * w) % k) turns ∙ ap (λ v. (c + v) % length p.slots) x
+    ∙ ap (λ v. (v + hop p * wave p n) % length p.slots) y
     ∙ sym (modulo-more (length p.slots) (hop p * wave p n) (pos 0 -ℤ pos ago) some)
 
 -- ---- owners

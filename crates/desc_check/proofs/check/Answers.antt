@@ -25,6 +25,7 @@ pub new-requires : goal.new-requires
 new-requires c =
     let none : lists_fault c.args.draft ≡ None = sym c.lists_fault.ensures ∙ c.in_default.is in
     let few = sym c.plan_fault.ensures ∙ c.in_default-plan_fault.is in
-    let sizes : plan_fault (plan_of_draft c.args.draft) ≡ None = subst (λ (p : Plan). plan_fault p ≡ None) c.in-Ok.ensures few in
+    let sizes : plan_fault (plan_of_draft c.args.draft) ≡ None =
+    subst (λ (p : Plan). plan_fault p ≡ None) c.in-Ok.ensures few in
     let slots : slots_fault c.args.draft ≡ None = sym c.slots_fault.ensures ∙ c.in_default-slots_fault.is in
     subst IsSound (sym c.in-Ok.ensures) (sound c.args.draft (none_of_all c.args.draft none sizes slots))

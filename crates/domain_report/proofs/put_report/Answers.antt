@@ -34,7 +34,8 @@ returns g c =
     let n = c.in_ok-counts.counts in
     let title = codes "domain " ++ c.name.result.now ++ 10 ∷ [] in
     let lines = ap (λ (xs : List Event). flat_map event_line (own c.args.d xs)) c.as_slice.ensures in
-    let counted : n ≡ counts_of es = c.in_ok-counts.ensures.counts ∙ ap (λ (xs : List Event). counts_of (own c.args.d xs)) c.as_slice.ensures in
+    let counted : n ≡ counts_of es =
+    c.in_ok-counts.ensures.counts ∙ ap (λ (xs : List Event). counts_of (own c.args.d xs)) c.as_slice.ensures in
     subst (Writes c.put_counts.result _ _) (report-is c.args.plan.now c.args.d c.name.result.now es n c.name.ensures counted)
     (Writes-then c.put_counts.result _ _ _ (title ++ flat_map event_line es) (end_line n)
     (Puts-then _ _ _ title (flat_map event_line es) c.in_ok-put_title.ensures (subst (Puts _ _) lines c.in_ok-counts.ensures.lines)) c.put_counts.ensures)

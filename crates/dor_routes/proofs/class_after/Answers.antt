@@ -8,8 +8,10 @@ returns-then-is_wrap-clause-value c = rw (sym c.is_wrap.ensures.value ∙ c.if-i
 
 pub returns-then-is_same_dim-clause-value : goal.returns-then-is_same_dim-clause-value
 unfolding class_after
-returns-then-is_same_dim-clause-value c = rw (sym c.is_wrap.ensures.value ∙ c.if-is_wrap.false, ← c.of_port-came.ensures, ← c.of_port-goes.ensures, sym c.is_same_dim.ensures ∙ c.if-is_same_dim.true) refl
+returns-then-is_same_dim-clause-value c =
+    rw (sym c.is_wrap.ensures.value ∙ c.if-is_wrap.false, ← c.of_port-came.ensures, ← c.of_port-goes.ensures, sym c.is_same_dim.ensures ∙ c.if-is_same_dim.true) refl
 
 pub returns-else-is_same_dim-clause-value : goal.returns-else-is_same_dim-clause-value
 unfolding class_after
-returns-else-is_same_dim-clause-value c = rw (sym c.is_wrap.ensures.value ∙ c.if-is_wrap.false, ← c.of_port-came.ensures, ← c.of_port-goes.ensures, sym c.is_same_dim.ensures ∙ c.if-is_same_dim.false) refl
+returns-else-is_same_dim-clause-value c =
+    rw (sym c.is_wrap.ensures.value ∙ c.if-is_wrap.false, ← c.of_port-came.ensures, ← c.of_port-goes.ensures, sym c.is_same_dim.ensures ∙ c.if-is_same_dim.false) refl

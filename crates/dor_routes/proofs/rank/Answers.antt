@@ -8,7 +8,8 @@ returns-in-Local-clause-value c = rw (sym c.in-Local.ensures) refl
 
 pub returns-in-Plus-clause-value : goal.returns-in-Plus-clause-value
 unfolding rank
-returns-in-Plus-clause-value c = rw (sym c.in-Plus.ensures, ← c.side.ensures.value, ← c.coord.ensures.value) c.rank_on.ensures.value
+returns-in-Plus-clause-value c =
+    rw (sym c.in-Plus.ensures, ← c.side.ensures.value, ← c.coord.ensures.value) c.rank_on.ensures.value
 
 pub returns-in-Minus-clause-value : goal.returns-in-Minus-clause-value
 unfolding rank

@@ -18,7 +18,8 @@ returns-then-x-y-clause-value c =
 
 pub loop-i-preserved : goal.loop-i-preserved
 unfolding coord
-loop-i-preserved c = below_more _ _ c.loop-i.invariant (sym c.coord-x.ensures.value ∙ c.if-x-y.false ∙ c.coord-y.ensures.value)
+loop-i-preserved c =
+    below_more _ _ c.loop-i.invariant (sym c.coord-x.ensures.value ∙ c.if-x-y.false ∙ c.coord-y.ensures.value)
 
 pub returns-clause-value : goal.returns-clause-value
 unfolding route

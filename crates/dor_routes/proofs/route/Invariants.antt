@@ -5,4 +5,5 @@ use Rattle.dor_routes.proofs.route.Given as goal
 
 -- no dimension before this one differs
 abbrev pub invariant-loop-i : goal.invariant-loop-i
-invariant-loop-i l = (j : ℕ) → j < l.i → slice_index (coords_in l.plan.dims l.at) j ≡ slice_index (coords_in l.plan.dims l.dest) j
+invariant-loop-i l =
+    (j : ℕ) → j < l.i → slice_index (coords_in l.plan.dims l.at) j ≡ slice_index (coords_in l.plan.dims l.dest) j

@@ -15,7 +15,8 @@ returns-in-Ok-clause-ok c =
 pub returns-else-is_memory-clause-fault : goal.returns-else-is_memory-clause-fault
 unfolding table_of
 returns-else-is_memory-clause-fault c _ =
-    let not_memory : ¬ (IsMemory c.in-Err.error) = λ m. false≢true (sym c.if-is_memory.false ∙ c.is_memory.ensures.1 m) in
+    let not_memory : ¬ (IsMemory c.in-Err.error) =
+    λ m. false≢true (sym c.if-is_memory.false ∙ c.is_memory.ensures.1 m) in
     elim (cases_Bool (is_utf8 c.args.bytes.now)) [
       | inl valid ↦ rw (valid, c.in-Err.ensures.refused not_memory (IsUtf8-from_is_utf8 c.args.bytes.now valid))
       | inr invalid ↦ rw invalid

@@ -26,4 +26,5 @@ unfolding wave
 returns-clause-wave c =
     let all = length-coords c.args.plan.now.dims c.args.tile in
     let less : length (coords_in c.args.plan.now.dims c.args.tile) ≤ c.loop-i.i = omega arith in
-    c.loop-i.invariant.so_far ∙ ap (sum_by (λ c. c)) (take_all c.loop-i.i (coords_in c.args.plan.now.dims c.args.tile) less)
+    c.loop-i.invariant.so_far
+    ∙ ap (sum_by (λ c. c)) (take_all c.loop-i.i (coords_in c.args.plan.now.dims c.args.tile) less)

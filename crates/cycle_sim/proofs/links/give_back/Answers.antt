@@ -1,49 +1,53 @@
-use Rattle.std.proofs.Common.{sym, ap, ◌∙◌, subst, arith, ⊎_elim}
-use Rattle.std.proofs.lemmas.Bool.Decides.{eqb_tells}
+use Rattle.std.proofs.Common.{◌≡◌, ◌<◌, ap, ◌∙◌, subst, arith}
 use Rattle.noc_model.specs.Plan.{ports}
 use Rattle.router_core.specs.Parts.{Parts}
 use Rattle.router_core.specs.Shown.{Shows}
 use Rattle.cycle_sim.specs.Links.{credit_at, repaid}
 use Rattle.cycle_sim.proofs.Numbers.{credit-port}
-use Rattle.cycle_sim.proofs.Comings.{with_credits, mirror, mirror-shows}
+use Rattle.cycle_sim.proofs.Comings.{with_credits, repaid-first, repaid-next, repaid-ahead, past}
 use Rattle.cycle_sim.proofs.links.give_back.Goals as goal
 
-pub loop-d-init : goal.loop-d-init
-loop-d-init c = record {
+pub loop-port-init : goal.loop-port-init
+loop-port-init c = record {
+  within = omega arith;
   rest = λ i. c.args.router.now;
   made = c.requires.made;
-  done = λ e s less shown. absurd (omega arith);
-  left = λ e s more shown. shown;
+  shows = λ d s there shown. repaid-first c.args.router.now c.args.plan.now d (credit_at c.args.plan.now d c.args.tile c.args.pulses.now) s shown;
 }
 
-pub give_back_to-requires-clause-made : goal.give_back_to-requires-clause-made
-give_back_to-requires-clause-made c = c.loop-d.invariant.made
+pub give_back_by-requires-clause-port : goal.give_back_by-requires-clause-port
+give_back_by-requires-clause-port c = let e = c.ports-port-end.ensures.value in omega (arith, e, c.loop-port-test.true)
 
-pub give_back_to-requires-clause-room : goal.give_back_to-requires-clause-room
-give_back_to-requires-clause-room c = λ port w inside here.
+pub give_back_by-requires-clause-made : goal.give_back_by-requires-clause-made
+give_back_by-requires-clause-made c = c.loop-port.invariant.made
+
+pub give_back_by-requires-clause-room : goal.give_back_by-requires-clause-room
+give_back_by-requires-clause-room c = λ d w there here.
     let p = c.args.plan.now in
-    let d = c.loop-d.d in
-    let room = c.requires.room d port w (omega (arith, c.domains-d-end.ensures, c.loop-d-test.true)) inside here in
-    let shown = c.loop-d.invariant.left d (mirror c.args.router.now p d) (omega arith) (mirror-shows c.args.router.now p d) in
-    let same = shown.credits port w (credit-port p d c.args.tile c.args.pulses.now port w here) inside room.0 in
+    let k = c.loop-port.port in
+    let e = c.ports-port-end.ensures.value in
+    let inside : k < ports p = omega (arith, e, c.loop-port-test.true) in
+    let room = c.requires.room d k w there inside here in
+    let same = repaid-ahead c.args.router.now c.loop-port.router p d k k w (credit_at p d c.args.tile c.args.pulses.now)
+    (credit-port p d c.args.tile c.args.pulses.now k w here) inside room.0 (past k) (λ s shown. c.loop-port.invariant.shows d s there shown) in
     (room.0, let few = room.1 in omega (arith, few, same))
 
-pub loop-d-preserved : goal.loop-d-preserved
-loop-d-preserved c =
+pub loop-port-preserved : goal.loop-port-preserved
+loop-port-preserved c =
     let p = c.args.plan.now in
-    let d = c.loop-d.d in
-    let new = c.give_back_to.new.router in
+    let k = c.loop-port.port in
     record {
-      rest = c.give_back_to.ensures.rest ∙ ap (λ (r : Parts). with_credits r new.credits) c.loop-d.invariant.rest;
-      made = c.give_back_to.ensures.made;
-      done = λ e s less shown. ⊎_elim
-          (λ same. subst (λ k. Shows new p k (repaid (credit_at p k c.args.tile c.args.pulses.now) (ports p) s)) (sym same.1)
-          (c.give_back_to.ensures.own s (c.loop-d.invariant.left d s (omega arith) (subst (λ k. Shows c.args.router.now p k s) same.1 shown))))
-          (λ other. let apart = other.1 in c.give_back_to.ensures.others e (repaid (credit_at p e c.args.tile c.args.pulses.now) (ports p) s) apart (c.loop-d.invariant.done e s (grind (arith, less, apart)) shown))
-          (eqb_tells e d);
-      left = λ e s more shown. c.give_back_to.ensures.others e s (λ same. absurd (omega (arith, more, same))) (c.loop-d.invariant.left e s (omega (arith, more)) shown);
+      within = let e = c.ports-port-end.ensures.value in omega (arith, e, c.loop-port-test.true);
+      rest = c.give_back_by.ensures.rest ∙ ap (λ (r : Parts). with_credits r c.give_back_by.new.router.credits) c.loop-port.invariant.rest;
+      made = c.give_back_by.ensures.made;
+      shows = λ d s there shown.
+          (let x = credit_at p d c.args.tile c.args.pulses.now in
+          repaid-next c.give_back_by.new.router p d k x s (c.give_back_by.ensures.shows d (repaid x k s) there (c.loop-port.invariant.shows d s there shown)));
     }
 
 pub returns-clause-shows : goal.returns-clause-shows
 returns-clause-shows c = λ d s there shown.
-    c.loop-d.invariant.done d s (omega (arith, there, c.domains-d-end.ensures, c.loop-d-test.false)) shown
+    let p = c.args.plan.now in
+    let e = c.ports-port-end.ensures.value in
+    let end : c.loop-port.port ≡ ports p = omega (arith, e, c.loop-port-test.false, c.loop-port.invariant.within) in
+    subst (λ k. Shows c.loop-port.router p d (repaid (credit_at p d c.args.tile c.args.pulses.now) k s)) end (c.loop-port.invariant.shows d s there shown)

@@ -7,4 +7,5 @@ use Rattle.desc_check.proofs.domains.same_name_fault.Given as goal
 
 -- the elements that are left decide
 abbrev pub invariant-loop-j : goal.invariant-loop-j
-invariant-loop-j l = first_at (λ j y. fault_if (nat_lt l.i j && bytes_eq l.domain.name y.name) (DomainTwice l.i j)) l.j (drop l.j l.domains) ≡ first_at (λ j y. fault_if (nat_lt l.i j && bytes_eq l.domain.name y.name) (DomainTwice l.i j)) 0 l.domains
+invariant-loop-j l =
+    first_at (λ j y. fault_if (nat_lt l.i j && bytes_eq l.domain.name y.name) (DomainTwice l.i j)) l.j (drop l.j l.domains) ≡ first_at (λ j y. fault_if (nat_lt l.i j && bytes_eq l.domain.name y.name) (DomainTwice l.i j)) 0 l.domains

@@ -8,4 +8,5 @@ use Rattle.desc_check.proofs.slots.slot_missing_fault.Given as goal
 
 -- the elements that are left decide
 abbrev pub invariant-loop-i : goal.invariant-loop-i
-invariant-loop-i l = first_at (λ i x. fault_if (int_eq l.version (pos 2) && not (is_among l.slots x.name)) (SlotMissing i)) l.i (drop l.i l.domains) ≡ first_at (λ i x. fault_if (int_eq l.version (pos 2) && not (is_among l.slots x.name)) (SlotMissing i)) 0 l.domains
+invariant-loop-i l =
+    first_at (λ i x. fault_if (int_eq l.version (pos 2) && not (is_among l.slots x.name)) (SlotMissing i)) l.i (drop l.i l.domains) ≡ first_at (λ i x. fault_if (int_eq l.version (pos 2) && not (is_among l.slots x.name)) (SlotMissing i)) 0 l.domains

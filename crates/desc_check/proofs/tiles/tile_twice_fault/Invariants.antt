@@ -5,4 +5,5 @@ use Rattle.desc_check.proofs.tiles.tile_twice_fault.Given as goal
 
 -- the elements that are left decide
 abbrev pub invariant-loop-i : goal.invariant-loop-i
-invariant-loop-i l = first_at (same_tile_fault l.elements) l.i (drop l.i l.elements) ≡ first_at (same_tile_fault l.elements) 0 l.elements
+invariant-loop-i l =
+    first_at (same_tile_fault l.elements) l.i (drop l.i l.elements) ≡ first_at (same_tile_fault l.elements) 0 l.elements

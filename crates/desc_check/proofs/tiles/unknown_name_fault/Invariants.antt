@@ -6,4 +6,5 @@ use Rattle.desc_check.proofs.tiles.unknown_name_fault.Given as goal
 
 -- the elements that are left decide
 abbrev pub invariant-loop-k : goal.invariant-loop-k
-invariant-loop-k l = first_at (λ k name. fault_if (not (is_domain l.domains name)) (HostUnknown l.i k)) l.k (drop l.k l.name-items) ≡ first_at (λ k name. fault_if (not (is_domain l.domains name)) (HostUnknown l.i k)) 0 l.name-items
+invariant-loop-k l =
+    first_at (λ k name. fault_if (not (is_domain l.domains name)) (HostUnknown l.i k)) l.k (drop l.k l.name-items) ≡ first_at (λ k name. fault_if (not (is_domain l.domains name)) (HostUnknown l.i k)) 0 l.name-items

@@ -27,7 +27,8 @@ returns-in_err-put_labelled g c =
 pub returns-in_err-put_labelled-2 : goal.returns-in_err-put_labelled-2
 returns-in_err-put_labelled-2 g c =
     let n = c.args.counts.now in
-    let p = err_from_is_err_and c.from_residual-in_err-put_labelled-2.result c.from_residual-in_err-put_labelled-2.ensures.1 in
+    let p =
+    err_from_is_err_and c.from_residual-in_err-put_labelled-2.result c.from_residual-in_err-put_labelled-2.ensures.1 in
     Writes-err c.from_residual-in_err-put_labelled-2.result p.0 _ _ (four n) (10 ∷ []) p.1
     (BreaksOff-more _ _ (three n) (32 ∷ decimal n.gots)
     (BreaksOff-more _ _ (two n) (32 ∷ decimal n.drops)
@@ -36,8 +37,10 @@ returns-in_err-put_labelled-2 g c =
 pub returns-in_err-put_labelled-3 : goal.returns-in_err-put_labelled-3
 returns-in_err-put_labelled-3 g c =
     let n = c.args.counts.now in
-    let p = err_from_is_err_and c.from_residual-in_err-put_labelled-3.result c.from_residual-in_err-put_labelled-3.ensures.1 in
-    let waits = Puts-then _ _ _ (codes "end " ++ decimal n.takes) (32 ∷ decimal n.waits) c.in_ok-put_labelled.ensures c.in_ok-put_labelled-2.ensures in
+    let p =
+    err_from_is_err_and c.from_residual-in_err-put_labelled-3.result c.from_residual-in_err-put_labelled-3.ensures.1 in
+    let waits =
+    Puts-then _ _ _ (codes "end " ++ decimal n.takes) (32 ∷ decimal n.waits) c.in_ok-put_labelled.ensures c.in_ok-put_labelled-2.ensures in
     Writes-err c.from_residual-in_err-put_labelled-3.result p.0 _ _ (four n) (10 ∷ []) p.1
     (BreaksOff-more _ _ (three n) (32 ∷ decimal n.gots)
     (BreaksOff-then _ _ _ (two n) (32 ∷ decimal n.drops) waits c.in_err-put_labelled-3.ensures))
@@ -45,8 +48,10 @@ returns-in_err-put_labelled-3 g c =
 pub returns-in_err-put_labelled-4 : goal.returns-in_err-put_labelled-4
 returns-in_err-put_labelled-4 g c =
     let n = c.args.counts.now in
-    let p = err_from_is_err_and c.from_residual-in_err-put_labelled-4.result c.from_residual-in_err-put_labelled-4.ensures.1 in
-    let waits = Puts-then _ _ _ (codes "end " ++ decimal n.takes) (32 ∷ decimal n.waits) c.in_ok-put_labelled.ensures c.in_ok-put_labelled-2.ensures in
+    let p =
+    err_from_is_err_and c.from_residual-in_err-put_labelled-4.result c.from_residual-in_err-put_labelled-4.ensures.1 in
+    let waits =
+    Puts-then _ _ _ (codes "end " ++ decimal n.takes) (32 ∷ decimal n.waits) c.in_ok-put_labelled.ensures c.in_ok-put_labelled-2.ensures in
     let drops = Puts-then _ _ _ (two n) (32 ∷ decimal n.drops) waits c.in_ok-put_labelled-3.ensures in
     Writes-err c.from_residual-in_err-put_labelled-4.result p.0 _ _ (four n) (10 ∷ []) p.1
     (BreaksOff-then _ _ _ (three n) (32 ∷ decimal n.gots) drops c.in_err-put_labelled-4.ensures)
@@ -54,7 +59,8 @@ returns-in_err-put_labelled-4 g c =
 pub returns : goal.returns
 returns g c =
     let n = c.args.counts.now in
-    let waits = Puts-then _ _ _ (codes "end " ++ decimal n.takes) (32 ∷ decimal n.waits) c.in_ok-put_labelled.ensures c.in_ok-put_labelled-2.ensures in
+    let waits =
+    Puts-then _ _ _ (codes "end " ++ decimal n.takes) (32 ∷ decimal n.waits) c.in_ok-put_labelled.ensures c.in_ok-put_labelled-2.ensures in
     let drops = Puts-then _ _ _ (two n) (32 ∷ decimal n.drops) waits c.in_ok-put_labelled-3.ensures in
     let gots = Puts-then _ _ _ (three n) (32 ∷ decimal n.gots) drops c.in_ok-put_labelled-4.ensures in
     Writes-then c.put.result _ _ _ (four n) (10 ∷ []) gots c.put.ensures

@@ -18,4 +18,6 @@ returns-in-Wait-clause-written c =
     ∙ ap (λ (k : Kind). front ++ 32 ∷ kind_bytes k) (sym c.in-Wait.is)
 
 pub returns-in-Got-clause-written : goal.returns-in-Got-clause-written
-returns-in-Got-clause-written c = c.put_got_at.ensures.written ∙ ap (λ (k : Kind). take c.args.at c.args.buf.now ++ 32 ∷ kind_bytes k) (sym c.in-Got.is)
+returns-in-Got-clause-written c =
+    c.put_got_at.ensures.written
+    ∙ ap (λ (k : Kind). take c.args.at c.args.buf.now ++ 32 ∷ kind_bytes k) (sym c.in-Got.is)

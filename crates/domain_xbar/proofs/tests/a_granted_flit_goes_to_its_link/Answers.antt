@@ -42,7 +42,8 @@ step-requires-clause-within g c =
     let two = two-domains p c.in_ok-plan.ensures in
     let own = filled-places None (λ e. ports p) (length p.domains) c.deref-2.result.now c.in_ok-grants.grants 1 c.in_ok-grants.ensures
     (c.deref-2.ensures.value ∙ c.in_ok-ports.ensures.value) (omega (arith, two.0)) in
-    let one = is-one c.deref-2.result.now c.in_ok-grants.grants c.set.new.self 1 0 _ c.in_ok-grants.ensures c.set.ensures own.0 (omega (arith, own.1, two.1)) in
+    let one =
+    is-one c.deref-2.result.now c.in_ok-grants.grants c.set.new.self 1 0 _ c.in_ok-grants.ensures c.set.ensures own.0 (omega (arith, own.1, two.1)) in
     one-within p c.set.new.self 1 0 _ one (omega (arith, two.1)) (omega (arith, two.2))
 
 pub step-requires-clause-single : goal.step-requires-clause-single
@@ -51,5 +52,6 @@ step-requires-clause-single g c =
     let two = two-domains p c.in_ok-plan.ensures in
     let own = filled-places None (λ e. ports p) (length p.domains) c.deref-2.result.now c.in_ok-grants.grants 1 c.in_ok-grants.ensures
     (c.deref-2.ensures.value ∙ c.in_ok-ports.ensures.value) (omega (arith, two.0)) in
-    let one = is-one c.deref-2.result.now c.in_ok-grants.grants c.set.new.self 1 0 _ c.in_ok-grants.ensures c.set.ensures own.0 (omega (arith, own.1, two.1)) in
+    let one =
+    is-one c.deref-2.result.now c.in_ok-grants.grants c.set.new.self 1 0 _ c.in_ok-grants.ensures c.set.ensures own.0 (omega (arith, own.1, two.1)) in
     one-single p c.set.new.self 1 0 _ one

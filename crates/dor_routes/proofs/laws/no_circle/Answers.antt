@@ -9,4 +9,5 @@ pub returns-clause-chain : goal.returns-clause-chain
 returns-clause-chain c = chain-rises c.rank_rises.ensures
 
 pub returns-clause-circle : goal.returns-clause-circle
-returns-clause-circle c = λ p a between sound chain. (let up = chain-rises c.rank_rises.ensures p a a between sound chain in omega (arith, up))
+returns-clause-circle c =
+    λ p a between sound chain. (let up = chain-rises c.rank_rises.ensures p a a between sound chain in omega (arith, up))

@@ -14,4 +14,5 @@ returns-clause-value c =
     sym (bits-is c.args.n 8 (omega arith) (omega (arith, c.requires)) (λ k from less. c.loop-b.invariant k from (omega (arith, less, c.loop-b-test.false))))
 
 pub returns-clause-least : goal.returns-clause-least
-returns-clause-least c = least-is c.args.n 8 (λ k from less. c.loop-b.invariant k from (omega (arith, less, c.loop-b-test.false)))
+returns-clause-least c =
+    least-is c.args.n 8 (λ k from less. c.loop-b.invariant k from (omega (arith, less, c.loop-b-test.false)))

@@ -12,11 +12,13 @@ loop-d-preserved c =
     let few = c.link_channels.ensures.few in
     let old = c.loop-d.invariant in
     let is = c.greater-most.ensures in (
-      is ∙ ap (λ m. max m c.link_channels.result) old.0 ∙ ap (λ m. max (max_channels k (take d p.domains)) m) c.link_channels.ensures.value
+      is ∙ ap (λ m. max m c.link_channels.result) old.0
+          ∙ ap (λ m. max (max_channels k (take d p.domains)) m) c.link_channels.ensures.value
           ∙ sym (most-take k p.domains d (omega (arith, c.loop-d-test.true, c.domains-d-end.ensures))),
       omega (arith, is, few, old.1),
     )
 
 pub returns-clause-value : goal.returns-clause-value
 returns-clause-value c =
-    c.loop-d.invariant.0 ∙ most-all (classes c.args.plan.now) c.args.plan.now.domains c.loop-d.d (omega (arith, c.loop-d-test.false, c.domains-d-end.ensures))
+    c.loop-d.invariant.0
+    ∙ most-all (classes c.args.plan.now) c.args.plan.now.domains c.loop-d.d (omega (arith, c.loop-d-test.false, c.domains-d-end.ensures))

@@ -5,4 +5,5 @@ use Rattle.noc_desc.proofs.faults.element_fault.Given as goal
 
 -- the elements that are left decide
 abbrev pub invariant-loop-element : goal.invariant-loop-element
-invariant-loop-element l = first_some (place_fault l.flaw) (element_tables l.kind l.element (items_view (drop l.element l.items))) ≡ first_some (place_fault l.flaw) (element_tables l.kind 0 (items_view l.items))
+invariant-loop-element l =
+    first_some (place_fault l.flaw) (element_tables l.kind l.element (items_view (drop l.element l.items))) ≡ first_some (place_fault l.flaw) (element_tables l.kind 0 (items_view l.items))

@@ -5,4 +5,5 @@ use Rattle.noc_desc.proofs.keys.all_fit.Given as goal
 
 -- the elements that are left decide
 abbrev pub invariant-loop-item : goal.invariant-loop-item
-invariant-loop-item l = all_fit l.element (items_view (drop l.item-index l.items)) ≡ all_fit l.element (items_view l.items)
+invariant-loop-item l =
+    all_fit l.element (items_view (drop l.item-index l.items)) ≡ all_fit l.element (items_view l.items)

@@ -6,4 +6,5 @@ use Rattle.noc_desc.proofs.keys.is_listed.Given as goal
 
 -- the keys that are left decide
 abbrev pub invariant-loop-key : goal.invariant-loop-key
-invariant-loop-key l = list_any (λ key. bytes_eq l.written (name key)) (drop l.key-index l.key-items) ≡ list_any (λ key. bytes_eq l.written (name key)) l.key-items
+invariant-loop-key l =
+    list_any (λ key. bytes_eq l.written (name key)) (drop l.key-index l.key-items) ≡ list_any (λ key. bytes_eq l.written (name key)) l.key-items

@@ -10,4 +10,5 @@ loop-element-preserved c =
     ∙ array-more integer c.args.list.now c.loop-element.element-index _ c.loop-element.items.items _ (omega arith) c.loop-element.invariant c.number.ensures
 
 pub returns : goal.returns
-returns c = array-whole integer c.args.list.now c.loop-element.element-index c.loop-element.items (omega arith) c.loop-element.invariant
+returns c =
+    array-whole integer c.args.list.now c.loop-element.element-index c.loop-element.items (omega arith) c.loop-element.invariant

@@ -10,4 +10,5 @@ loop-element-preserved c =
     ∙ array-more range_data c.args.list.now c.loop-element.element-index _ c.loop-element.items.items _ (omega arith) c.loop-element.invariant c.in_ok-range.ensures
 
 pub returns : goal.returns
-returns c = array-whole range_data c.args.list.now c.loop-element.element-index c.loop-element.items (omega arith) c.loop-element.invariant
+returns c =
+    array-whole range_data c.args.list.now c.loop-element.element-index c.loop-element.items (omega arith) c.loop-element.invariant

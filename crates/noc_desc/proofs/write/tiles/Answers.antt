@@ -10,4 +10,5 @@ loop-element-preserved c =
     ∙ array-more tile_data c.args.list.now c.loop-element.element-index c.element-item.result c.loop-element.items.items _ (omega arith) c.loop-element.invariant (c.in_ok-tile.ensures ∙ ap tile_data c.element-item.is)
 
 pub returns : goal.returns
-returns c = array-whole tile_data c.args.list.now c.loop-element.element-index c.loop-element.items (omega arith) c.loop-element.invariant
+returns c =
+    array-whole tile_data c.args.list.now c.loop-element.element-index c.loop-element.items (omega arith) c.loop-element.invariant

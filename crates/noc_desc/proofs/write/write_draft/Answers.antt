@@ -14,7 +14,9 @@ returns-in-Ok-clause-table c =
     (c.in_ok-put_lists.ensures ∙ ap (lists_of c.args.draft.now) c.in_ok-table.ensures))
 
 pub returns-in-Ok-clause-no_fault : goal.returns-in-Ok-clause-no_fault
-returns-in-Ok-clause-no_fault c weighted = none-written c.into_bytes.result.items c.args.draft.now (returns-in-Ok-clause-table c) weighted
+returns-in-Ok-clause-no_fault c weighted =
+    none-written c.into_bytes.result.items c.args.draft.now (returns-in-Ok-clause-table c) weighted
 
 pub returns-in-Ok-clause-reads_back : goal.returns-in-Ok-clause-reads_back
-returns-in-Ok-clause-reads_back c = draft-written c.into_bytes.result.items c.args.draft.now (returns-in-Ok-clause-table c)
+returns-in-Ok-clause-reads_back c =
+    draft-written c.into_bytes.result.items c.args.draft.now (returns-in-Ok-clause-table c)

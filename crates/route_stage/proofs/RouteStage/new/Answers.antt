@@ -9,4 +9,5 @@ loop-dest-preserved c =
     let f = route c.args.plan.now c.args.tile in
     let k = c.loop-dest.dest in
     c.in_ok-push.ensures.items ∙ ap (λ xs. xs ++ c.route.result ∷ []) c.loop-dest.invariant
-    ∙ ap (λ o. map f (range_with_len 0 k) ++ o ∷ []) c.route.ensures.value ∙ sym (map-range_with_len_more f 0 k k (omega arith))
+    ∙ ap (λ o. map f (range_with_len 0 k) ++ o ∷ []) c.route.ensures.value
+    ∙ sym (map-range_with_len_more f 0 k k (omega arith))

@@ -3,7 +3,8 @@ use Rattle.route_stage.proofs.Routes.{domain-more, before-none, before-all}
 use Rattle.route_stage.proofs.RouteStage.step.Goals as goal
 
 pub loop-d-init : goal.loop-d-init
-loop-d-init c = (c.requires.next, λ n e k made. before-none c.args.plan.now n c.args.fronts.now c.args.stages.now c.args.next.now e k)
+loop-d-init c =
+    (c.requires.next, λ n e k made. before-none c.args.plan.now n c.args.fronts.now c.args.stages.now c.args.next.now e k)
 
 pub loop-d-preserved : goal.loop-d-preserved
 loop-d-preserved c = (

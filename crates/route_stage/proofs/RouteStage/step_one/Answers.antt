@@ -22,4 +22,5 @@ returns-clause-routed c = λ n made.
     (read-is (lane c.args.next.now d) i c.at-3.result.now Idle next_in c.at-3.ensures) c.requires.dest)
 
 pub returns-clause-inputs : goal.returns-clause-inputs
-returns-clause-inputs c = rw c.set.ensures (still-inputs c.args.plan.now c.args.next.now c.args.d c.args.i c.routed-stage.result c.requires.domain c.requires.next)
+returns-clause-inputs c =
+    rw c.set.ensures (still-inputs c.args.plan.now c.args.next.now c.args.d c.args.i c.routed-stage.result c.requires.domain c.requires.next)

@@ -6,7 +6,8 @@ use Rattle.route_stage.proofs.tests.a_front_flit_routes_its_channel.Goals as goa
 
 pub set-requires-clause-place : goal.set-requires-clause-place
 set-requires-clause-place g c =
-    let has = made-inputs c.in_ok-plan.plan _ c.in_ok-stages.stages _ c.in_ok-stages.ensures (c.deref-2.ensures.value ∙ c.in_ok-counts.ensures.value) in
+    let has =
+    made-inputs c.in_ok-plan.plan _ c.in_ok-stages.stages _ c.in_ok-stages.ensures (c.deref-2.ensures.value ∙ c.in_ok-counts.ensures.value) in
     let e = c.in_ok-plan.ensures in
     let two : length c.in_ok-plan.plan.domains ≡ 2 = ap (λ (p : Plan). length p.domains) e in
     let three : input_count c.in_ok-plan.plan 1 ≡ 3 = ap (λ (p : Plan). input_count p 1) e in
@@ -14,7 +15,8 @@ set-requires-clause-place g c =
     omega (arith, at, three)
 
 pub step-requires-clause-fronts : goal.step-requires-clause-fronts
-step-requires-clause-fronts g c = made-inputs c.in_ok-plan.plan _ c.in_ok-fronts.fronts _ c.in_ok-fronts.ensures (c.deref.ensures.value ∙ c.in_ok-counts.ensures.value)
+step-requires-clause-fronts g c =
+    made-inputs c.in_ok-plan.plan _ c.in_ok-fronts.fronts _ c.in_ok-fronts.ensures (c.deref.ensures.value ∙ c.in_ok-counts.ensures.value)
 
 pub step-requires-clause-stages : goal.step-requires-clause-stages
 step-requires-clause-stages g c =
@@ -25,7 +27,8 @@ step-requires-clause-stages g c =
     (made-inputs c.in_ok-plan.plan _ c.in_ok-stages.stages _ c.in_ok-stages.ensures (c.deref-2.ensures.value ∙ c.in_ok-counts.ensures.value)))
 
 pub step-requires-clause-next : goal.step-requires-clause-next
-step-requires-clause-next g c = made-inputs c.in_ok-plan.plan _ c.in_ok-next.next _ c.in_ok-next.ensures (c.deref-3.ensures.value ∙ c.in_ok-counts.ensures.value)
+step-requires-clause-next g c =
+    made-inputs c.in_ok-plan.plan _ c.in_ok-next.next _ c.in_ok-next.ensures (c.deref-3.ensures.value ∙ c.in_ok-counts.ensures.value)
 
 pub step-requires-clause-dest : goal.step-requires-clause-dest
 step-requires-clause-dest g c =

@@ -22,7 +22,8 @@ loop-ch-preserved c =
     let port = c.args.port in
     let v = c.args.self.now in
     let x = c.clear.new.self in
-    let channel : c.loop-ch.ch < in_channels p d port = omega (arith, c.loop-ch-test.true, c.channel_count-ch-end.ensures.value) in
+    let channel : c.loop-ch.ch < in_channels p d port =
+    omega (arith, c.loop-ch-test.true, c.channel_count-ch-end.ensures.value) in
     let there : d < length v.asks = let e = c.requires.made.domains in omega (arith, e, c.requires.domain) in
     let cleared = cleared-only v x d port c.clear.ensures there in
     let only = only-then v x c.loop-ch.self d cleared c.loop-ch.invariant.only in

@@ -13,6 +13,7 @@ returns-then-asks_for-clause-value c =
     let k = c.loop-port.port in
     let set : ℕ → Bool = λ port. asks_for (ask_at x c.args.d port) c.args.out in
     let late : nat_le c.args.from k ≡ true = let h : c.args.from ≤ k = c.if-port-from.true in grind (arith, nat_tests) in
-    let here : set k ≡ true = ap (λ g. asks_for g c.args.out) (sym c.asked.ensures.value) ∙ sym c.asks_for.ensures ∙ c.if-asks_for.true in
+    let here : set k ≡ true =
+    ap (λ g. asks_for g c.args.out) (sym c.asked.ensures.value) ∙ sym c.asks_for.ensures ∙ c.if-asks_for.true in
     let below : k < x.ports = omega (arith, c.loop-port-test.true, c.ports-port-end.ensures.value) in
     sym (least-found (from_on c.args.from set) x.ports k below c.loop-port.invariant (ap (λ b. b && set k) late ∙ here))

@@ -5,4 +5,5 @@ use Rattle.slot_switch.specs.Grants.{OnlyLane}
 use Rattle.slot_switch.proofs.step.forget.Given as goal
 
 abbrev pub invariant-loop-port : goal.invariant-loop-port
-invariant-loop-port l = ((k : ℕ) → k < l.port → slice_get (lane l.grants l.d) k ≡ Some None) × OnlyLane l.initial.grants l.grants l.d
+invariant-loop-port l =
+    ((k : ℕ) → k < l.port → slice_get (lane l.grants l.d) k ≡ Some None) × OnlyLane l.initial.grants l.grants l.d

@@ -33,7 +33,8 @@ step-requires-clause-grants g c = λ d there.
 pub step-requires-clause-routed : goal.step-requires-clause-routed
 step-requires-clause-routed g c = λ d there k o w at.
     let p = c.in_ok-plan.plan in
-    let is = filled-is _ (input_count p) (length p.domains) c.deref.result.now c.in_ok-stages.stages c.in_ok-stages.ensures (c.deref.ensures.value ∙ c.in_ok-inputs.ensures.value) in
+    let is =
+    filled-is _ (input_count p) (length p.domains) c.deref.result.now c.in_ok-stages.stages c.in_ok-stages.ensures (c.deref.ensures.value ∙ c.in_ok-inputs.ensures.value) in
     let same = filled-get (input_count p d) k (Active 1 0) (Active o w)
     (sym (ap (λ l. slice_get l k) (filled-lane _ (input_count p) (length p.domains) c.in_ok-stages.stages d is there)) ∙ at) in
     two-routed p d o w (two-channels p c.in_ok-plan.ensures d there) same

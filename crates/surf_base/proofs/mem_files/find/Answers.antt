@@ -9,7 +9,8 @@ use Rattle.surf_base.proofs.mem_files.find.Goals.{then-eq, else-eq}
 pub loop-i-preserved : goal.loop-i-preserved
 loop-i-preserved c =
     let before : c.loop-i.i < length c.args.files.now = omega arith in
-    let is : slice_get c.args.files.now c.loop-i.i ≡ Some c.index-files-i.result = slice_get_read _ _ _ _ refl before c.index-files-i.is in
+    let is : slice_get c.args.files.now c.loop-i.i ≡ Some c.index-files-i.result =
+    slice_get_read _ _ _ _ refl before c.index-files-i.is in
     let same = bytes_eq-Decides c.as_slice.result.now c.args.name.now in
     elim c.if-eq.branch [
       | then-eq w ↦

@@ -9,12 +9,14 @@ returns-in_err-digit-clause-value c =
 
 pub overflow_mul-value : goal.overflow_mul-value
 overflow_mul-value c =
-    let small = Reads-next_small c.args.radix c.args.bytes.now c.loop-byte.byte-index c.loop-byte.value c.from.result c.in_ok-digit.digit (omega arith) c.requires.high c.requires.short (omega arith) c.from.ensures c.in_ok-digit.ensures.value.0 (sym c.in_ok-digit.ensures.value.1) c.loop-byte.invariant in
+    let small =
+    Reads-next_small c.args.radix c.args.bytes.now c.loop-byte.byte-index c.loop-byte.value c.from.result c.in_ok-digit.digit (omega arith) c.requires.high c.requires.short (omega arith) c.from.ensures c.in_ok-digit.ensures.value.0 (sym c.in_ok-digit.ensures.value.1) c.loop-byte.invariant in
     rw c.from-in-loop-byte.ensures (omega (arith, small))
 
 pub overflow_add-value : goal.overflow_add-value
 overflow_add-value c =
-    let small = Reads-next_small c.args.radix c.args.bytes.now c.loop-byte.byte-index c.loop-byte.value c.from.result c.in_ok-digit.digit (omega arith) c.requires.high c.requires.short (omega arith) c.from.ensures c.in_ok-digit.ensures.value.0 (sym c.in_ok-digit.ensures.value.1) c.loop-byte.invariant in
+    let small =
+    Reads-next_small c.args.radix c.args.bytes.now c.loop-byte.byte-index c.loop-byte.value c.from.result c.in_ok-digit.digit (omega arith) c.requires.high c.requires.short (omega arith) c.from.ensures c.in_ok-digit.ensures.value.0 (sym c.in_ok-digit.ensures.value.1) c.loop-byte.invariant in
     rw (c.from-in-loop-byte.ensures, c.from-in-loop-byte-2.ensures) (omega (arith, small))
 
 pub loop-byte-preserved : goal.loop-byte-preserved

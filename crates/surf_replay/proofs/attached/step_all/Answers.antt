@@ -24,12 +24,15 @@ loop-j-preserved g c =
       done = λ nets k h less in-cycle at.
           ⊎_elim
           (λ (same : k ≡ j). (
-          let here : slice_get c.args.plan.now.hosts j ≡ Some h = ap (slice_get c.args.plan.now.hosts) (sym same) ∙ at in
+          let here : slice_get c.args.plan.now.hosts j ≡ Some h =
+          ap (slice_get c.args.plan.now.hosts) (sym same) ∙ at in
           let s = ap (g.D.Driving.state c.step_attached.new.drive) same ∙ e.state nets h in-cycle here
-          ∙ ap (λ (w : Driver). notified w t j (g.D.Driving.state c.loop-j.drive j) nets h) i.driver ∙ ap (λ (x : List ℕ). notified v t j x nets h) (i.left j (omega arith))
+          ∙ ap (λ (w : Driver). notified w t j (g.D.Driving.state c.loop-j.drive j) nets h) i.driver
+          ∙ ap (λ (x : List ℕ). notified v t j x nets h) (i.left j (omega arith))
           ∙ ap (λ (n : ℕ). notified v t n (state n) nets h) (sym same) in
           let q = ap (seen_at c.step_attached.new.seen) same ∙ e.seen nets h in-cycle here
-          ∙ ap (λ (w : Driver). seen_text w t j (g.D.Driving.state c.loop-j.drive j) nets h) i.driver ∙ ap (λ (x : List ℕ). seen_text v t j x nets h) (i.left j (omega arith))
+          ∙ ap (λ (w : Driver). seen_text w t j (g.D.Driving.state c.loop-j.drive j) nets h) i.driver
+          ∙ ap (λ (x : List ℕ). seen_text v t j x nets h) (i.left j (omega arith))
           ∙ ap (λ (n : ℕ). seen_text v t n (state n) nets h) (sym same) in
           (s, q)))
           (λ (other : k ≢ j). (

@@ -74,7 +74,8 @@ returns-clause-states g c =
     let v : Driver = g.D.Driving.driver c.args.drive.now in
     let start : Going = at_start d (g.D.Driving.state c.args.drive.now) in
     let all : c.loop-t.t ≡ c.args.cycles = omega arith in
-    c.loop-t.invariant.going.attached ∙ ap (λ (n : ℕ). (gone p d v n 0 start).states) all ∙ sym (states-gone p d v c.args.cycles 0 start)
+    c.loop-t.invariant.going.attached ∙ ap (λ (n : ℕ). (gone p d v n 0 start).states) all
+    ∙ sym (states-gone p d v c.args.cycles 0 start)
 
 pub returns-clause-events : goal.returns-clause-events
 returns-clause-events g c = λ k less. (

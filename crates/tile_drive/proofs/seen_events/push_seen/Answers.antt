@@ -39,5 +39,7 @@ loop-j-preserved c =
 
 pub returns-clause-ok : goal.returns-clause-ok
 returns-clause-ok c =
-    let all : take c.loop-j.j c.args.plan.now.hosts ≡ c.args.plan.now.hosts = take_all c.loop-j.j c.args.plan.now.hosts (omega arith) in
-    c.loop-j.invariant.so_far ∙ ap (λ (hs : List Host). c.args.events.now ++ events_seen c.args.t c.args.seen.now 0 hs) all
+    let all : take c.loop-j.j c.args.plan.now.hosts ≡ c.args.plan.now.hosts =
+    take_all c.loop-j.j c.args.plan.now.hosts (omega arith) in
+    c.loop-j.invariant.so_far
+    ∙ ap (λ (hs : List Host). c.args.events.now ++ events_seen c.args.t c.args.seen.now 0 hs) all

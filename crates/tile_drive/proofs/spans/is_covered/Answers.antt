@@ -2,7 +2,8 @@ use Rattle.tile_drive.proofs.SpanLemmas.{ends_for_all, covered_by}
 use Rattle.tile_drive.proofs.spans.is_covered.Goals as goal
 
 pub end_by-requires : goal.end_by-requires
-end_by-requires c = ends_for_all c.args.spans.now c.args.ends.now c.begun_by-begun.result c.requires c.begun_by-begun.ensures.bound
+end_by-requires c =
+    ends_for_all c.args.spans.now c.args.ends.now c.begun_by-begun.result c.requires c.begun_by-begun.ensures.bound
 
 pub returns : goal.returns
 returns c =

@@ -19,8 +19,10 @@ loop-i-preserved c =
     let count : c.ports.result * c.link_channels.result ≡ input_count p d =
     ap (λ k. k * c.link_channels.result) c.ports.ensures.value ∙ ap (λ k. ports p * k) c.link_channels.ensures.value in
     let below : i < input_count p d = omega (arith, c.loop-i-test.true, count) in
-    let some : 1 ≤ channels p d = some-class (classes p) (channels p d) c.link_channels.result c.link_channels.ensures.value c.link_channels.ensures.some in
-    let stage : c.at.result.now ≡ stage_at c.args.stages.now d i = sym (get-some (lane c.args.stages.now d) i c.at.result.now Idle c.at.ensures) in
+    let some : 1 ≤ channels p d =
+    some-class (classes p) (channels p d) c.link_channels.result c.link_channels.ensures.value c.link_channels.ensures.some in
+    let stage : c.at.result.now ≡ stage_at c.args.stages.now d i =
+    sym (get-some (lane c.args.stages.now d) i c.at.result.now Idle c.at.ensures) in
     let goes : GoesBelow (ports p) c.at.result.now = let P : Stage → Type 0 = GoesBelow (ports p) in subst P (sym stage) (c.requires.outs i) in
     knows-more p d i c.args.self.now c.loop-i.self c.want_at.new.self c.args.stages.now c.at.result.now c.requires.made some below c.loop-i.invariant stage goes c.want_at.ensures.best c.want_at.ensures.same
 

@@ -16,6 +16,7 @@ loop-preserved c =
     let few = c.ports.ensures.few in
     let sum = ap total items ∙ total-push c.loop.counts.items n in
     let old = c.loop.invariant.1 in (
-      items ∙ ap (λ xs. xs ++ n ∷ []) c.loop.invariant.0 ∙ ap (λ o. map (λ d. ports p) (range_with_len 0 k) ++ o ∷ []) c.ports.ensures.value ∙ sym more,
+      items ∙ ap (λ xs. xs ++ n ∷ []) c.loop.invariant.0
+          ∙ ap (λ o. map (λ d. ports p) (range_with_len 0 k) ++ o ∷ []) c.ports.ensures.value ∙ sym more,
       omega (arith, few, sum, old),
     )

@@ -19,6 +19,8 @@ returns-then-n-text t c =
 
 pub returns : goal.returns
 returns t c =
-    let lt : c.len_before-n.result < length c.args.text.now = omega (arith, c.len_before-n.ensures.within, c.if-n-text.false) in
-    let on = phrase_more c.args.text.now c.len_before-n.result (placed c.args.ts) (placed c.in_ok-ts.ts) c.len_before-n.ensures.value lt (ap (λ m. one (the_mark m) (placed c.args.ts)) (sym c.before-2.ensures) ∙ c.in_ok-ts.ensures) in
+    let lt : c.len_before-n.result < length c.args.text.now =
+    omega (arith, c.len_before-n.ensures.within, c.if-n-text.false) in
+    let on =
+    phrase_more c.args.text.now c.len_before-n.result (placed c.args.ts) (placed c.in_ok-ts.ts) c.len_before-n.ensures.value lt (ap (λ m. one (the_mark m) (placed c.args.ts)) (sym c.before-2.ensures) ∙ c.in_ok-ts.ensures) in
     subst (λ o. Gives (λ x. (tt, placed x)) c.phrase.result o) (ap (λ bs. phrase bs (placed c.in_ok-ts.ts)) c.behind.ensures ∙ sym on) c.phrase.ensures

@@ -37,37 +37,43 @@ returns-then-clean-len-clause-grammar c =
 pub returns-then-left-gt0-clause-err : goal.returns-then-left-gt0-clause-err
 returns-then-left-gt0-clause-err c =
     let bs = c.args.bytes.now in
-    let clean : length bs ≤ prefix_len is_text_byte bs = omega (arith, c.if-clean-len.false, c.text_len-clean.ensures.value) in
+    let clean : length bs ≤ prefix_len is_text_byte bs =
+    omega (arith, c.if-clean-len.false, c.text_len-clean.ensures.value) in
     token_here bs (length bs - c.unread-left.result) c.unread-left.result clean c.unread-left.ensures.value c.if-left-gt0.true c.unread-left.ensures.within (omega arith)
 
 pub returns-then-left-gt0-clause-byte : goal.returns-then-left-gt0-clause-byte
 returns-then-left-gt0-clause-byte c =
     let bs = c.args.bytes.now in
-    let clean : length bs ≤ prefix_len is_text_byte bs = omega (arith, c.if-clean-len.false, c.text_len-clean.ensures.value) in
+    let clean : length bs ≤ prefix_len is_text_byte bs =
+    omega (arith, c.if-clean-len.false, c.text_len-clean.ensures.value) in
     λ n f. absurd (no_byte bs n clean f)
 
 pub returns-in-Ok-clause-byte : goal.returns-in-Ok-clause-byte
 returns-in-Ok-clause-byte c =
     let bs = c.args.bytes.now in
-    let clean : length bs ≤ prefix_len is_text_byte bs = omega (arith, c.if-clean-len.false, c.text_len-clean.ensures.value) in
+    let clean : length bs ≤ prefix_len is_text_byte bs =
+    omega (arith, c.if-clean-len.false, c.text_len-clean.ensures.value) in
     λ n f. absurd (no_byte bs n clean f)
 
 pub returns-in-Err-Memory-clause-byte : goal.returns-in-Err-Memory-clause-byte
 returns-in-Err-Memory-clause-byte c =
     let bs = c.args.bytes.now in
-    let clean : length bs ≤ prefix_len is_text_byte bs = omega (arith, c.if-clean-len.false, c.text_len-clean.ensures.value) in
+    let clean : length bs ≤ prefix_len is_text_byte bs =
+    omega (arith, c.if-clean-len.false, c.text_len-clean.ensures.value) in
     λ n f. absurd (no_byte bs n clean f)
 
 pub returns-in-Err-At-clause-byte : goal.returns-in-Err-At-clause-byte
 returns-in-Err-At-clause-byte c =
     let bs = c.args.bytes.now in
-    let clean : length bs ≤ prefix_len is_text_byte bs = omega (arith, c.if-clean-len.false, c.text_len-clean.ensures.value) in
+    let clean : length bs ≤ prefix_len is_text_byte bs =
+    omega (arith, c.if-clean-len.false, c.text_len-clean.ensures.value) in
     λ n f. absurd (no_byte bs n clean f)
 
 pub returns-in-Ok-clause-ok : goal.returns-in-Ok-clause-ok
 returns-in-Ok-clause-ok c =
     let bs = c.args.bytes.now in
-    let clean : length bs ≤ prefix_len is_text_byte bs = omega (arith, c.if-clean-len.false, c.text_len-clean.ensures.value) in
+    let clean : length bs ≤ prefix_len is_text_byte bs =
+    omega (arith, c.if-clean-len.false, c.text_len-clean.ensures.value) in
     let whole : unread bs ≡ 0 = omega (arith, c.if-left-gt0.false, c.unread-left.ensures.value) in
     spelled_here bs (read_design c.in-Ok.design) clean whole c.in-Ok.ensures
 
@@ -79,7 +85,8 @@ returns-in-Ok-clause-complete c =
 pub returns-in-Ok-clause-grammar : goal.returns-in-Ok-clause-grammar
 returns-in-Ok-clause-grammar c =
     let bs = c.args.bytes.now in
-    let clean : length bs ≤ prefix_len is_text_byte bs = omega (arith, c.if-clean-len.false, c.text_len-clean.ensures.value) in
+    let clean : length bs ≤ prefix_len is_text_byte bs =
+    omega (arith, c.if-clean-len.false, c.text_len-clean.ensures.value) in
     let whole : unread bs ≡ 0 = omega (arith, c.if-left-gt0.false, c.unread-left.ensures.value) in
     λ n f. absurd (not_spelled bs n (read_design c.in-Ok.design) f (spelled_here bs (read_design c.in-Ok.design) clean whole c.in-Ok.ensures))
 
@@ -98,7 +105,8 @@ returns-in-Err-At-clause-complete c =
 pub returns-in-Err-At-clause-err : goal.returns-in-Err-At-clause-err
 returns-in-Err-At-clause-err c =
     let bs = c.args.bytes.now in
-    let clean : length bs ≤ prefix_len is_text_byte bs = omega (arith, c.if-clean-len.false, c.text_len-clean.ensures.value) in
+    let clean : length bs ≤ prefix_len is_text_byte bs =
+    omega (arith, c.if-clean-len.false, c.text_len-clean.ensures.value) in
     let whole : unread bs ≡ 0 = omega (arith, c.if-left-gt0.false, c.unread-left.ensures.value) in
     let e : design_at (tokens_of bs) ≡ Err c.in-Err-At.left = rw c.in-Err-At.field-0-is at c.in-Err-At.ensures in
     grammar_here bs c.in-Err-At.left clean whole e
@@ -106,7 +114,8 @@ returns-in-Err-At-clause-err c =
 pub returns-in-Err-At-clause-grammar : goal.returns-in-Err-At-clause-grammar
 returns-in-Err-At-clause-grammar c =
     let bs = c.args.bytes.now in
-    let clean : length bs ≤ prefix_len is_text_byte bs = omega (arith, c.if-clean-len.false, c.text_len-clean.ensures.value) in
+    let clean : length bs ≤ prefix_len is_text_byte bs =
+    omega (arith, c.if-clean-len.false, c.text_len-clean.ensures.value) in
     let whole : unread bs ≡ 0 = omega (arith, c.if-left-gt0.false, c.unread-left.ensures.value) in
     let e : design_at (tokens_of bs) ≡ Err c.in-Err-At.left = rw c.in-Err-At.field-0-is at c.in-Err-At.ensures in
     λ n f. ap faults.Grammar (one_place bs (length bs - c.in-Err-At.left) n (grammar_here bs c.in-Err-At.left clean whole e).at f.at)

@@ -12,11 +12,13 @@ use Rattle.vl_read.proofs.Takes.{part_takes}
 use Rattle.vl_read.proofs.expr.+expr.Goals as goal
 
 pub parts-parts-smaller : goal.parts-parts-smaller
-parts-parts-smaller t c = part_takes c.args.depth (placed c.parts.rest) (read c.in_ok-e.e) (placed c.in_ok-e.after) c.in_ok-e.ensures
+parts-parts-smaller t c =
+    part_takes c.args.depth (placed c.parts.rest) (read c.in_ok-e.e) (placed c.in_ok-e.after) c.in_ok-e.ensures
 
 pub parts-parts-preserved : goal.parts-parts-preserved
 parts-parts-preserved t c =
-    let e : map read c.push-in-parts.new.self ≡ map read c.parts.parts ++ read c.in_ok-e.e ∷ [] = rw c.in_ok-push-2.ensures.ok (map_push read c.parts.parts c.in_ok-e.e) in
+    let e : map read c.push-in-parts.new.self ≡ map read c.parts.parts ++ read c.in_ok-e.e ∷ [] =
+    rw c.in_ok-push-2.ensures.ok (map_push read c.parts.parts c.in_ok-e.e) in
     rw e (loop_on (is_mark (codes ",")) (part_at (expr_at c.args.depth)) (phrase (codes "}")) (map read c.parts.parts) (placed c.parts.rest) (read c.in_ok-e.e) (placed c.in_ok-e.after)
     (more_of (read c.args.first ∷ []) (parts_at (expr_at c.args.depth) (placed c.args.ts))) (part_takes c.args.depth) (sym c.at_mark.ensures ∙ c.parts-test.true) c.in_ok-e.ensures c.parts.invariant)
 

@@ -7,7 +7,8 @@ use Rattle.vl_read.specs.Lists.{more_of}
 use Rattle.vl_read.proofs.expr.+expr.Given as goal
 
 abbrev pub invariant-parts-parts : goal.invariant-parts-parts
-invariant-parts-parts l = more_of (map read l.parts) (parts_at (expr_at l.depth) (placed l.rest)) ≡ more_of (read l.fn.first ∷ []) (parts_at (expr_at l.depth) (placed l.ts))
+invariant-parts-parts l =
+    more_of (map read l.parts) (parts_at (expr_at l.depth) (placed l.rest)) ≡ more_of (read l.fn.first ∷ []) (parts_at (expr_at l.depth) (placed l.ts))
 
 abbrev pub decreases-parts-parts : goal.decreases-parts-parts
 decreases-parts-parts l = length (placed l.rest)

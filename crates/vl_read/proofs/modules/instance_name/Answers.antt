@@ -11,4 +11,5 @@ returns-in_err-ts c =
     rw (p.1, p.2) (closed_fails c.in_err-ts.field-0.0 (one the_name) (codes "( . clk ( clk ) , . rst ( rst )") (placed c.args.ts) c.in_ok-name.name (placed c.in_ok-name.ts) c.in_ok-name.ensures c.in_err-ts.ensures)
 
 pub returns : goal.returns
-returns c = closed_gives (one the_name) (codes "( . clk ( clk ) , . rst ( rst )") (placed c.args.ts) c.in_ok-name.name (placed c.in_ok-name.ts) (placed c.in_ok-ts.ts) c.in_ok-name.ensures c.in_ok-ts.ensures
+returns c =
+    closed_gives (one the_name) (codes "( . clk ( clk ) , . rst ( rst )") (placed c.args.ts) c.in_ok-name.name (placed c.in_ok-name.ts) (placed c.in_ok-ts.ts) c.in_ok-name.ensures c.in_ok-ts.ensures

@@ -11,11 +11,13 @@ use Rattle.vl_read.proofs.Takes.{item_takes}
 use Rattle.vl_read.proofs.modules.item_list.Goals as goal
 
 pub items-smaller : goal.items-smaller
-items-smaller c = item_takes (placed c.items.rest) (read_item c.in_ok-one.one) (placed c.in_ok-one.after) c.in_ok-one.ensures
+items-smaller c =
+    item_takes (placed c.items.rest) (read_item c.in_ok-one.one) (placed c.in_ok-one.after) c.in_ok-one.ensures
 
 pub items-preserved : goal.items-preserved
 items-preserved c =
-    let e : read_items c.push.new.self ≡ read_items c.items.items ++ read_item c.in_ok-one.one ∷ [] = rw c.in_ok-push.ensures.ok (map_push read_item c.items.items c.in_ok-one.one) in
+    let e : read_items c.push.new.self ≡ read_items c.items.items ++ read_item c.in_ok-one.one ∷ [] =
+    rw c.in_ok-push.ensures.ok (map_push read_item c.items.items c.in_ok-one.one) in
     rw e (loop_on goes_on item_at (phrase (codes "endmodule module")) (read_items c.items.items) (placed c.items.rest) (read_item c.in_ok-one.one) (placed c.in_ok-one.after) (parts.items_at (placed c.args.ts)) item_takes (sym c.goes_on.ensures ∙ c.items-test.true) c.in_ok-one.ensures c.items.invariant)
 
 pub returns-in_err-one : goal.returns-in_err-one
@@ -29,4 +31,5 @@ returns-in_err-ts c =
     rw (p.1, p.2) (loop_refused c.in_err-ts.field-0.0 goes_on item_at (phrase (codes "endmodule module")) (read_items c.items.items) (placed c.items.rest) (parts.items_at (placed c.args.ts)) (sym c.goes_on.ensures ∙ c.items-test.false) c.in_err-ts.ensures c.items.invariant)
 
 pub returns : goal.returns
-returns c = loop_ends goes_on item_at (phrase (codes "endmodule module")) (read_items c.items.items) (placed c.items.rest) tt (placed c.in_ok-ts.ts) (parts.items_at (placed c.args.ts)) (sym c.goes_on.ensures ∙ c.items-test.false) c.in_ok-ts.ensures c.items.invariant
+returns c =
+    loop_ends goes_on item_at (phrase (codes "endmodule module")) (read_items c.items.items) (placed c.items.rest) tt (placed c.in_ok-ts.ts) (parts.items_at (placed c.args.ts)) (sym c.goes_on.ensures ∙ c.items-test.false) c.in_ok-ts.ensures c.items.invariant

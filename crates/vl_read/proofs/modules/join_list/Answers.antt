@@ -27,4 +27,5 @@ returns-in_err-ts c =
     rw (p.1, p.2) (loop_refused c.in_err-ts.field-0.0 (is_mark (codes ",")) join_at (phrase (codes ") ;")) (c.joins.joins) (placed c.joins.rest) (parts.joins_at (placed c.args.ts)) (sym c.at_mark.ensures ∙ c.joins-test.false) c.in_err-ts.ensures c.joins.invariant)
 
 pub returns : goal.returns
-returns c = loop_ends (is_mark (codes ",")) join_at (phrase (codes ") ;")) (c.joins.joins) (placed c.joins.rest) tt (placed c.in_ok-ts.ts) (parts.joins_at (placed c.args.ts)) (sym c.at_mark.ensures ∙ c.joins-test.false) c.in_ok-ts.ensures c.joins.invariant
+returns c =
+    loop_ends (is_mark (codes ",")) join_at (phrase (codes ") ;")) (c.joins.joins) (placed c.joins.rest) tt (placed c.in_ok-ts.ts) (parts.joins_at (placed c.args.ts)) (sym c.at_mark.ensures ∙ c.joins-test.false) c.in_ok-ts.ensures c.joins.invariant

@@ -27,4 +27,5 @@ returns-in_err-ts c =
     rw (p.1, p.2) (loop_refused c.in_err-ts.field-0.0 (is_mark (codes ",")) port_at (phrase (codes ") ;")) (c.ports.ports) (placed c.ports.rest) (parts.ports_at (placed c.args.ts)) (sym c.at_mark.ensures ∙ c.ports-test.false) c.in_err-ts.ensures c.ports.invariant)
 
 pub returns : goal.returns
-returns c = loop_ends (is_mark (codes ",")) port_at (phrase (codes ") ;")) (c.ports.ports) (placed c.ports.rest) tt (placed c.in_ok-ts.ts) (parts.ports_at (placed c.args.ts)) (sym c.at_mark.ensures ∙ c.ports-test.false) c.in_ok-ts.ensures c.ports.invariant
+returns c =
+    loop_ends (is_mark (codes ",")) port_at (phrase (codes ") ;")) (c.ports.ports) (placed c.ports.rest) tt (placed c.in_ok-ts.ts) (parts.ports_at (placed c.args.ts)) (sym c.at_mark.ensures ∙ c.ports-test.false) c.in_ok-ts.ensures c.ports.invariant

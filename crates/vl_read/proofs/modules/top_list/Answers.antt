@@ -27,4 +27,5 @@ returns-in_err-ts c =
     rw (p.1, p.2) (loop_refused c.in_err-ts.field-0.0 goes_on top_item_at (phrase (codes "endmodule")) (c.items.items) (placed c.items.rest) (parts.top_items_at (placed c.args.ts)) (sym c.goes_on.ensures ∙ c.items-test.false) c.in_err-ts.ensures c.items.invariant)
 
 pub returns : goal.returns
-returns c = loop_ends goes_on top_item_at (phrase (codes "endmodule")) (c.items.items) (placed c.items.rest) tt (placed c.in_ok-ts.ts) (parts.top_items_at (placed c.args.ts)) (sym c.goes_on.ensures ∙ c.items-test.false) c.in_ok-ts.ensures c.items.invariant
+returns c =
+    loop_ends goes_on top_item_at (phrase (codes "endmodule")) (c.items.items) (placed c.items.rest) tt (placed c.in_ok-ts.ts) (parts.top_items_at (placed c.args.ts)) (sym c.goes_on.ensures ∙ c.items-test.false) c.in_ok-ts.ensures c.items.invariant

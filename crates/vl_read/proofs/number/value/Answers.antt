@@ -13,4 +13,5 @@ loop-d-preserved c =
     (ap (λ d. fitting (c.loop-d.number * c.args.base + d)) (sym c.digit.ensures) ∙ sym c.next.ensures ∙ c.in_ok-number.was)
 
 pub returns : goal.returns
-returns c = value_ends c.args.base c.loop-d.number c.loop-d.d-index c.args.digits.now c.loop-d.invariant.0 c.loop-d.invariant.1 (omega arith)
+returns c =
+    value_ends c.args.base c.loop-d.number c.loop-d.d-index c.args.digits.now c.loop-d.invariant.0 c.loop-d.invariant.1 (omega arith)

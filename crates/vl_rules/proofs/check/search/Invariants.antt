@@ -7,4 +7,5 @@ use Rattle.vl_rules.specs.Check.{test_of}
 use Rattle.vl_rules.proofs.check.search.Given as goal
 
 abbrev pub invariant-loop-number : goal.invariant-loop-number
-invariant-loop-number l = position_from (test_of l.check) 0 (sites_behind (leaves_before l.site) (lines_of l.site.subject) [] (take l.number (lines_of l.site.subject))) ≡ None
+invariant-loop-number l =
+    position_from (test_of l.check) 0 (sites_behind (leaves_before l.site) (lines_of l.site.subject) [] (take l.number (lines_of l.site.subject))) ≡ None

@@ -6,4 +6,5 @@ use Rattle.vl_rules.specs.Scope.{count}
 use Rattle.vl_rules.proofs.driven.port_counts.Given as goal
 
 abbrev pub invariant-loop-join : goal.invariant-loop-join
-invariant-loop-join l = (n : Name) → count l.table n ≡ min 2 (count_by (λ (j : Join). bytes_eq n j.port) (take l.join-index l.joins))
+invariant-loop-join l =
+    (n : Name) → count l.table n ≡ min 2 (count_by (λ (j : Join). bytes_eq n j.port) (take l.join-index l.joins))

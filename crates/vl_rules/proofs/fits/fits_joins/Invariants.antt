@@ -8,5 +8,6 @@ use Rattle.vl_rules.proofs.fits.fits_joins.Given as goal
 
 abbrev pub invariant-loop-join : goal.invariant-loop-join
 invariant-loop-join l =
-    let fits = λ (j : Join). join_fits (widths_at l.site.declared.now l.number) j.net (port_named l.leaf.leaf.now.ports j.port) in
+    let fits =
+    λ (j : Join). join_fits (widths_at l.site.declared.now l.number) j.net (port_named l.leaf.leaf.now.ports j.port) in
     list_all fits l.joins ≡ list_all fits (drop l.join-index l.joins)

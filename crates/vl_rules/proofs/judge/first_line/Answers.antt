@@ -10,7 +10,8 @@ use Rattle.vl_rules.proofs.judge.first_line.Goals as goal
 
 pub returns-in-Some : goal.returns-in-Some
 returns-in-Some c =
-    let same : length (read_leaves c.args.library.now.leaves.now) ≡ length c.args.library.now.leaves.now = rw length-map refl in
+    let same : length (read_leaves c.args.library.now.leaves.now) ≡ length c.args.library.now.leaves.now =
+    rw length-map refl in
     let within : c.loop-number.number < length (read_leaves c.args.library.now.leaves.now) = omega arith in
     let l = there (read_leaves c.args.library.now.leaves.now) c.loop-number.number within in
     sym (leaf-at (rule_of c.args.rule).1 (read_leaves c.args.library.now.leaves.now) c.loop-number.number l.0 l.1 c.in-Some.line (module_sites (read_leaves c.args.library.now.leaves.now) (top_lines c.args.top.now)) c.loop-number.invariant.none
@@ -20,7 +21,8 @@ returns-in-Some c =
 
 pub loop-number-preserved : goal.loop-number-preserved
 loop-number-preserved c =
-    let same : length (read_leaves c.args.library.now.leaves.now) ≡ length c.args.library.now.leaves.now = rw length-map refl in
+    let same : length (read_leaves c.args.library.now.leaves.now) ≡ length c.args.library.now.leaves.now =
+    rw length-map refl in
     let within : c.loop-number.number < length (read_leaves c.args.library.now.leaves.now) = omega arith in
     let l = there (read_leaves c.args.library.now.leaves.now) c.loop-number.number within in
     record {
@@ -36,7 +38,8 @@ loop-number-preserved c =
 
 pub returns-in_ok-place-in-Some-2 : goal.returns-in_ok-place-in-Some-2
 returns-in_ok-place-in-Some-2 c =
-    let same : length (read_leaves c.args.library.now.leaves.now) ≡ length c.args.library.now.leaves.now = rw length-map refl in
+    let same : length (read_leaves c.args.library.now.leaves.now) ≡ length c.args.library.now.leaves.now =
+    rw length-map refl in
     let all : length (read_leaves c.args.library.now.leaves.now) ≤ c.loop-number.number = omega arith in
     sym (top-is (rule_of c.args.rule).1 (read_leaves c.args.library.now.leaves.now) (top_lines c.args.top.now) c.loop-number.number (Some c.in-Some-2.line) all c.loop-number.invariant.none
     (module-is (rule_of c.args.rule).1 (leaves_before c.top_site-site.result) (read_leaves c.args.library.now.leaves.now) (lines_of c.top_site-site.result.subject) (top_lines c.args.top.now)
@@ -45,7 +48,8 @@ returns-in_ok-place-in-Some-2 c =
 
 pub returns-in-None : goal.returns-in-None
 returns-in-None c =
-    let same : length (read_leaves c.args.library.now.leaves.now) ≡ length c.args.library.now.leaves.now = rw length-map refl in
+    let same : length (read_leaves c.args.library.now.leaves.now) ≡ length c.args.library.now.leaves.now =
+    rw length-map refl in
     let all : length (read_leaves c.args.library.now.leaves.now) ≤ c.loop-number.number = omega arith in
     sym (top-is (rule_of c.args.rule).1 (read_leaves c.args.library.now.leaves.now) (top_lines c.args.top.now) c.loop-number.number None all c.loop-number.invariant.none
     (module-is (rule_of c.args.rule).1 (leaves_before c.top_site-site.result) (read_leaves c.args.library.now.leaves.now) (lines_of c.top_site-site.result.subject) (top_lines c.args.top.now)

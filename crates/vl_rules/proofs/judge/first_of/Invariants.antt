@@ -7,5 +7,6 @@ use Rattle.vl_rules.proofs.judge.first_of.Given as goal
 
 abbrev pub invariant-loop-rule : goal.invariant-loop-rule
 invariant-loop-rule l =
-    let sites = leaf_sites [] (read_leaves l.library.leaves.now) ++ module_sites (read_leaves l.library.leaves.now) (top_lines l.top) in
+    let sites =
+    leaf_sites [] (read_leaves l.library.leaves.now) ++ module_sites (read_leaves l.library.leaves.now) (top_lines l.top) in
     first_fault_of (map rule_of l.rules) sites ≡ first_fault_of (map rule_of (drop l.rule-index l.rules)) sites

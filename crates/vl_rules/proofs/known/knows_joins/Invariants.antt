@@ -8,5 +8,6 @@ use Rattle.vl_rules.proofs.known.knows_joins.Given as goal
 
 abbrev pub invariant-loop-join : goal.invariant-loop-join
 invariant-loop-join l =
-    let known = λ (j : Join). joins_known (lines_before l.site l.number) j.net (port_named l.leaf.leaf.now.ports j.port) in
+    let known =
+    λ (j : Join). joins_known (lines_before l.site l.number) j.net (port_named l.leaf.leaf.now.ports j.port) in
     list_all known l.joins ≡ list_all known (drop l.join-index l.joins)

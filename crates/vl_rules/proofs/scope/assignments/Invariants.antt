@@ -7,4 +7,5 @@ use Rattle.vl_rules.specs.Lines.{lines_of}
 use Rattle.vl_rules.proofs.scope.assignments.Given as goal
 
 abbrev pub invariant-loop-number : goal.invariant-loop-number
-invariant-loop-number l = (n : Name) → found l.table n ≡ position_from (assigns n) 0 (take l.number (lines_of l.subject))
+invariant-loop-number l =
+    (n : Name) → found l.table n ≡ position_from (assigns n) 0 (take l.number (lines_of l.subject))

@@ -7,4 +7,5 @@ use Rattle.vl_rules.specs.Scope.{count}
 use Rattle.vl_rules.proofs.tallies.count_joins.Given as goal
 
 abbrev pub invariant-loop-join : goal.invariant-loop-join
-invariant-loop-join l = (n : Name) → count l.table n ≡ min 2 (count l.initial.table n + count_by (join_drives (read_leaf l.known.leaf.now) n) (take l.join-index l.joins))
+invariant-loop-join l =
+    (n : Name) → count l.table n ≡ min 2 (count l.initial.table n + count_by (join_drives (read_leaf l.known.leaf.now) n) (take l.join-index l.joins))

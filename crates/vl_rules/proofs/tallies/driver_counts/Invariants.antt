@@ -5,4 +5,5 @@ use Rattle.vl_rules.specs.Tallies.{Counts}
 use Rattle.vl_rules.proofs.tallies.driver_counts.Given as goal
 
 abbrev pub invariant-loop-number : goal.invariant-loop-number
-invariant-loop-number l = Counts l.table (take l.leaves (read_leaves l.library.leaves.now)) (take l.number (lines_of l.subject))
+invariant-loop-number l =
+    Counts l.table (take l.leaves (read_leaves l.library.leaves.now)) (take l.number (lines_of l.subject))

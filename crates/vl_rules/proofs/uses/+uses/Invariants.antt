@@ -6,4 +6,5 @@ use Rattle.vl_rules.specs.Walks.{use_passes}
 use Rattle.vl_rules.proofs.uses.+uses.Given as goal
 
 abbrev pub invariant-any_in-loop-e : goal.invariant-any_in-loop-e
-invariant-any_in-loop-e l = list_any (use_passes l.test) (parts_uses (reads l.es)) ≡ list_any (use_passes l.test) (parts_uses (reads (drop l.e-index l.es)))
+invariant-any_in-loop-e l =
+    list_any (use_passes l.test) (parts_uses (reads l.es)) ≡ list_any (use_passes l.test) (parts_uses (reads (drop l.e-index l.es)))

@@ -7,7 +7,8 @@ use Rattle.vl_rules.proofs.widths.+width.Goals as goal
 
 pub width-returns-in_ok-u-in-Two : goal.width-returns-in_ok-u-in-Two
 width-returns-in_ok-u-in-Two t c =
-    c.two.ensures ∙ sym (two_width (widths_at c.args.table.now c.args.number) c.in-Two.op (read c.in-Two.a) (read c.in-Two.b) c.in_ok-w-in-Two.w c.in_ok-u-in-Two.u c.in_ok-w-in-Two.ensures c.in_ok-u-in-Two.ensures)
+    c.two.ensures
+    ∙ sym (two_width (widths_at c.args.table.now c.args.number) c.in-Two.op (read c.in-Two.a) (read c.in-Two.b) c.in_ok-w-in-Two.w c.in_ok-u-in-Two.u c.in_ok-w-in-Two.ensures c.in_ok-u-in-Two.ensures)
     ∙ ap (width_in (widths_at c.args.table.now c.args.number)) (sym (ap read c.in-Two.is ∙ read_two c.in-Two.op c.in-Two.a c.in-Two.b))
 
 pub width-returns-in_ok-u-in-If : goal.width-returns-in_ok-u-in-If

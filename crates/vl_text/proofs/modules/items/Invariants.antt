@@ -4,4 +4,5 @@ use Rattle.vl_tree.specs.Layout.{each_text, item_text}
 use Rattle.vl_text.proofs.modules.items.Given as goal
 
 abbrev pub invariant-loop-it : goal.invariant-loop-it
-invariant-loop-it l = l.out.items ++ each_text item_text (read_items (drop l.it-index l.its)) ≡ l.fn.out.items ++ each_text item_text (read_items l.its)
+invariant-loop-it l =
+    l.out.items ++ each_text item_text (read_items (drop l.it-index l.its)) ≡ l.fn.out.items ++ each_text item_text (read_items l.its)

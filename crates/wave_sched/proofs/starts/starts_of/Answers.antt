@@ -6,5 +6,6 @@ use Rattle.wave_sched.proofs.starts.starts_of.Goals as goal
 
 pub loop-port-preserved : goal.loop-port-preserved
 loop-port-preserved c =
-    let more = map-range_with_len_more (port_slots c.args.plan.now c.args.tile) 0 c.loop-port.port c.loop-port.port (omega arith) in
+    let more =
+    map-range_with_len_more (port_slots c.args.plan.now c.args.tile) 0 c.loop-port.port c.loop-port.port (omega arith) in
     grind (arith, common_steps, more)

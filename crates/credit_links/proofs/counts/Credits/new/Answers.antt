@@ -6,7 +6,8 @@ use Rattle.credit_links.proofs.Full.{map-replicate, full-within}
 use Rattle.credit_links.proofs.counts.Credits.new.Goals as goal
 
 pub invariant_of-result : goal.invariant_of-result
-invariant_of-result c = λ d k. rw (c.in_ok-lanes.ensures, c.buffer.ensures, c.buffer-2.ensures) (full-within c.deref.result.now c.args.plan.now.buffer d k)
+invariant_of-result c =
+    λ d k. rw (c.in_ok-lanes.ensures, c.buffer.ensures, c.buffer-2.ensures) (full-within c.deref.result.now c.args.plan.now.buffer d k)
 
 pub returns : goal.returns
 returns c =

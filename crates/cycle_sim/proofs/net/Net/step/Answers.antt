@@ -9,7 +9,7 @@ use Rattle.router_core.specs.declared.router.RouterOut.{RouterOut}
 use Rattle.router_core.specs.Parts.{Parts}
 use Rattle.router_core.specs.Sizes.{IsMade}
 use Rattle.cycle_sim.specs.Attached.{seen_of}
-use Rattle.cycle_sim.specs.TileCycle.{ArePulses, MayStep, HasStepped}
+use Rattle.cycle_sim.specs.TileCycle.{AreAllPulses, MayStep, HasStepped}
 use Rattle.cycle_sim.specs.Net.{Kept, Shows, kept}
 use Rattle.cycle_sim.proofs.Told.{made-told}
 use Rattle.cycle_sim.proofs.Written.{get-below, record-at}
@@ -50,7 +50,7 @@ step_tiles-requires-clause-pulses g c =
       pulse_ports = c.keep_all.ensures.ports;
       pulse_same = λ n d port r is. c.keep_all.ensures.same n d port r (ap (λ xs. slice_get xs n) c.deref.ensures.value ∙ is);
     } in
-    subst (λ xs. ArePulses p xs) (sym c.deref-3.ensures.value) (are-pulses p t v st first told told pulses [] rows rows c.known.ensures cycled)
+    subst (λ xs. AreAllPulses p xs) (sym c.deref-3.ensures.value) (are-pulses p t v st first told told pulses [] rows rows c.known.ensures cycled)
 
 pub step_tiles-requires-clause-router : goal.step_tiles-requires-clause-router
 step_tiles-requires-clause-router g c =

@@ -5,4 +5,6 @@ use Rattle.flit_pool.proofs.Members.{is-call, holds-value}
 use Rattle.flit_pool.proofs.ring.Ring.holds.Goals as goal
 
 pub returns : goal.returns
-returns c = ap (λ (x : Link). nat_le x.next c.self.inside.size) c.link_at.ensures ∙ holds-value (is-call _ _ _ _ c.self.invariant c.self.view_is) c.args.i c.requires
+returns c =
+    ap (λ (x : Link). nat_le x.next c.self.inside.size) c.link_at.ensures
+    ∙ holds-value (is-call _ _ _ _ c.self.invariant c.self.view_is) c.args.i c.requires

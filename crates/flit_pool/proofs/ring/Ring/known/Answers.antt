@@ -15,5 +15,6 @@ returns-clause-below c =
 pub returns-clause-once : goal.returns-clause-once
 returns-clause-once c =
     let x = c.self.inside in
-    let here : (i : ℕ) → times i (members x.links.items x.size x.count) ≤ 1 = at-most-once x.links.items x.size x.count c.self.invariant in
+    let here : (i : ℕ) → times i (members x.links.items x.size x.count) ≤ 1 =
+    at-most-once x.links.items x.size x.count c.self.invariant in
     rw (← c.self.view_is) here

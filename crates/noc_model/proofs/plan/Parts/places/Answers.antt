@@ -12,9 +12,12 @@ few_places a b l q ha hb hl hq =
 
 pub overflow_mul-result-3 : goal.overflow_mul-result-3
 overflow_mul-result-3 c =
-    let tiles : c.product_of.result ≤ 256 = rw (c.product_of.ensures, c.as_slice-sides.ensures.value) c.requires.tiles in
-    let ports : 1 + 2 * length c.as_slice-sides.result.now ≤ 7 = rw c.as_slice-sides.ensures.value (let d = c.requires.dims in omega arith) in
-    let few = few_places c.product_of.result (1 + 2 * length c.as_slice-sides.result.now) c.all_link_channels-channels.result c.args.self.now.buffer tiles ports c.all_link_channels-channels.ensures.few c.requires.buffer in
+    let tiles : c.product_of.result ≤ 256 =
+    rw (c.product_of.ensures, c.as_slice-sides.ensures.value) c.requires.tiles in
+    let ports : 1 + 2 * length c.as_slice-sides.result.now ≤ 7 =
+    rw c.as_slice-sides.ensures.value (let d = c.requires.dims in omega arith) in
+    let few =
+    few_places c.product_of.result (1 + 2 * length c.as_slice-sides.result.now) c.all_link_channels-channels.result c.args.self.now.buffer tiles ports c.all_link_channels-channels.ensures.few c.requires.buffer in
     omega (arith, few)
 
 pub returns : goal.returns

@@ -4,7 +4,7 @@ use Rattle.noc_model.specs.Plan.{ports}
 use Rattle.slot_switch.specs.Switch.{granted_in}
 use Rattle.router_core.specs.Parts.{Parts}
 use Rattle.router_core.specs.Crossing.{SendsBelow, sent_parts, sent_by, laid_on}
-use Rattle.router_core.proofs.Sending.{sends-none, sends-more, may-send}
+use Rattle.router_core.proofs.Sending.{sends-none, sends-more, sends-nothing, may-send}
 use Rattle.router_core.proofs.router.Router.send_all.Goals as goal
 
 pub loop-out-init : goal.loop-out-init
@@ -31,3 +31,7 @@ loop-out-preserved c =
     subst P (sym c.send-flit.ensures.value)
     (subst Q (sym (c.lay.ensures ∙ ap (laid_on ys o) c.send-flit.ensures.flit))
     (sends-more o p d r q xs ys c.loop-out.invariant c.requires.domain (omega (arith, n, c.loop-out-test.true)) c.requires.links c.requires.made c.requires.can))
+
+pub returns-then-asks_nothing : goal.returns-then-asks_nothing
+returns-then-asks_nothing c = let p = c.args.plan.now in
+    sends-nothing (ports p) p c.args.d c.args.self.now c.args.links.now c.requires.domain c.requires.links c.requires.made c.requires.can (c.asks_nothing.ensures.0 c.if-asks_nothing.true) (omega arith)

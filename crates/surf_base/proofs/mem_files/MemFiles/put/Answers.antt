@@ -5,7 +5,8 @@ use Rattle.surf_base.proofs.mem_files.MemFiles.put.Goals as goal
 
 pub returns-clause-held : goal.returns-clause-held
 returns-clause-held c =
-    held_in-put _ _ _ c.args.name.now c.in_ok-push.ensures.items (c.in_ok-name.ensures ∙ c.as_bytes.ensures.value) ∙ ap Holds c.in_ok-content.ensures
+    held_in-put _ _ _ c.args.name.now c.in_ok-push.ensures.items (c.in_ok-name.ensures ∙ c.as_bytes.ensures.value)
+    ∙ ap Holds c.in_ok-content.ensures
 
 pub returns-clause-others : goal.returns-clause-others
 returns-clause-others c other differs =

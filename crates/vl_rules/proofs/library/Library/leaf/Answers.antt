@@ -9,8 +9,10 @@ use Rattle.vl_rules.proofs.library.Library.leaf.Goals as goal
 
 pub known-requires-clause-within : goal.known-requires-clause-within
 known-requires-clause-within c =
-    let h = position-in (λ (l : Leaf). bytes_eq c.args.name.now l.name) 0 c.in-Some.number (read_leaves c.args.self.now.leaves.now) (sym (c.in-Some.ensures ∙ c.requires.numbers c.args.name.now)) in
-    let same : length (read_leaves c.args.self.now.leaves.now) ≡ length c.args.self.now.leaves.now = rw length-map refl in
+    let h =
+    position-in (λ (l : Leaf). bytes_eq c.args.name.now l.name) 0 c.in-Some.number (read_leaves c.args.self.now.leaves.now) (sym (c.in-Some.ensures ∙ c.requires.numbers c.args.name.now)) in
+    let same : length (read_leaves c.args.self.now.leaves.now) ≡ length c.args.self.now.leaves.now =
+    rw length-map refl in
     omega arith
 
 pub returns-then-number-count-clause-leaf : goal.returns-then-number-count-clause-leaf

@@ -1,0 +1,11 @@
+pub mod Keyed
+pub mod Rising
+pub mod Lines
+pub mod Listed
+pub mod Ties
+pub mod Top
+pub mod Drives
+pub mod Widths
+pub mod Spelled
+pub mod Rules
+pub mod Shaped
