@@ -1,7 +1,7 @@
 -- When a form is a design's: inputs, outputs and latches bit by bit; which expressions need no gate.
-use Rattle.std.specs.Prelude.{◌≡◌, ℕ, zero, suc, ◌+◌, ◌==◌, Bool, true, false, ◌&&◌, List, [], ◌∷◌, ◌++◌, flat_map, length, Option, Some, None, if◌then◌else◌}
+use Rattle.std.specs.Prelude.{◌≡◌, ℕ, zero, suc, ◌+◌, ◌^◌, ◌<◌, ◌==◌, Bool, true, false, ◌&&◌, List, [], ◌∷◌, ◌++◌, flat_map, length, Option, Some, None, if◌then◌else◌}
 use Rattle.std.specs.Int.{bit_at}
-use Rattle.std.specs.List.{list_all}
+use Rattle.std.specs.List.{AllByRecursion, list_all}
 use Rattle.vl_tree.specs.declared.tree.Port.{Port}
 use Rattle.vl_tree.specs.declared.tree.TopItem.{TopItem}
 use Rattle.vl_tree.specs.declared.tree.TopItem.TheVariants.{Wire, Instance}
@@ -115,9 +115,13 @@ abbrev pub AreBits : List Bool → (ℕ → Bool) → ℕ → Type 0
 AreBits [] f i = Unit {0}
 AreBits (b ∷ bs) f i = (f i ≡ b) × AreBits bs f (i + 1)
 
--- the inputs of the form are the design's in each cycle
+-- the numbers of the input ports fit them
+abbrev pub FitPorts : (Name → ℕ) → List Port → Type 0
+FitPorts numbers ps = AllByRecursion (λ (p : Port). p.output ≡ false → numbers p.name < 2 ^ (p.high + 1)) ps
+
+-- in each cycle the inputs of the form are the bits of the design's, which fit their ports
 abbrev pub AreInputs : Design → (ℕ → Name → ℕ) → (ℕ → ℕ → Bool) → Type 0
-AreInputs d given bits = (t : ℕ) → AreBits (all_bits false (given t) d.top.ports) (bits t) 0
+AreInputs d given bits = (t : ℕ) → FitPorts (given t) d.top.ports × AreBits (all_bits false (given t) d.top.ports) (bits t) 0
 
 -- for all inputs the form's outputs and latches are bit by bit the design's, from memories of 0
 pub record IsFormOf (d : Design) (f : Form) : Type 0 where

@@ -1,5 +1,5 @@
 -- The replay of a right text is the simulation.
-use Rattle.std.proofs.Common.{◌≡◌, ℕ, zero, suc, ◌+◌, ◌^◌, ◌<◌, ◌≤◌, Bool, true, false, ◌&&◌, ◌==◌, List, [], ◌∷◌, map, drop, length, Ok, refl, ◌∙◌, ap, arith}
+use Rattle.std.proofs.Common.{sym, ◌≡◌, ℕ, zero, suc, ◌+◌, ◌^◌, ◌<◌, ◌≤◌, Bool, true, false, ◌&&◌, ◌==◌, List, [], ◌∷◌, map, drop, length, Ok, refl, ◌∙◌, ap, arith}
 use Rattle.std.specs.Prelude.{Some, None, nat_le, nat_lt, if◌then◌else◌, slice_get, option_map, unwrap_or}
 use Rattle.std.specs.List.{AllByRecursion, cons_option}
 use Rattle.std.specs.Char.{digit_value}
@@ -34,8 +34,8 @@ use Rattle.right_design.proofs.Driven.{replay-is-simulation}
 use Rattle.surf_cli.specs.Simulate.{report_text, reports_text}
 use Rattle.surf_cli.specs.Replay.{replayed_report, replayed_text}
 use Rattle.surf_cli.specs.TextRead.{unless, judged_design, judged_text}
-use Rattle.surf_cli.specs.Meaning.{Exactly, Does, with_trace, if_sound}
-use Rattle.surf_cli.specs.Laws.{ReplayIsSimulate}
+use Rattle.surf_cli.specs.Meaning.{Exactly, Does, with_judged, with_text, with_trace, if_sound}
+use Rattle.surf_cli.specs.Laws.{ReplayIsSimulate, CommandsAgree}
 use Rattle.surf_cli.proofs.Simulated.{alike}
 use Rattle.surf_cli.proofs.TextReads.{read-spelled}
 use Rattle.surf_cli.proofs.Texts.{texts-same}
@@ -186,3 +186,9 @@ pub replay-is-simulate : ReplayIsSimulate
 replay-is-simulate p text trace cycles sound right =
     ap (λ r. if_sound r (λ d. with_trace p trace (λ es. Does (Exactly (replayed_text p d es cycles))))) (judged-right p text right)
     ∙ ap (λ bytes. with_trace p trace (λ es. Does (Exactly bytes))) (reports-same p right.design (entries p (lines trace)) cycles sound right.right (small-entries p (lines trace)))
+
+pub commands-agree : CommandsAgree
+commands-agree p held cycles e sound right =
+    ap (λ j. with_judged j (λ q. with_text q held.text (λ d. with_trace q held.trace (λ es. Does (Exactly (replayed_text q d es cycles)))))) e
+    ∙ replay-is-simulate p held.text held.trace cycles sound right
+    ∙ sym (ap (λ j. with_judged j (λ q. with_trace q held.trace (λ es. Does (Exactly (reports_text q es cycles))))) e)

@@ -8,7 +8,7 @@ ghost use Rattle.vl_tree.specs.Values.{Design};
 ghost use Rattle.vl_tree.specs.Spells.{Spells};
 ghost use Rattle.vl_tree.specs.Faults.{IsReadFault};
 ghost use Rattle.vl_tree.specs.declared.fault.TextFault.{TextFault};
-ghost use Rattle.surf_cli.specs.Laws.{ReplayIsSimulate};
+ghost use Rattle.surf_cli.specs.Laws.{ReplayIsSimulate, CommandsAgree};
 ghost use Rattle.surf_cli.specs.Simulate.{report_text};
 ghost use Rattle.surf_cli.specs.TextRead.{text_read};
 
@@ -32,5 +32,6 @@ pub fn texts_as_refused()
 /// The replay of a right text is the simulation: `replay` of such a text and `simulate` come to the same end, with the
 /// same bytes, for every trace and cycle count.
 pub fn replay_is_simulate()
-    ensures { ReplayIsSimulate }
+    ensures text { ReplayIsSimulate }
+    ensures commands { CommandsAgree }
 {}

@@ -33,6 +33,7 @@ use Rattle.gen_kit.specs.Groups.{Group, HoldsIn, all_items}
 use Rattle.gen_kit.specs.Ports.{name_with, host_name}
 use Rattle.gen_kit.specs.Shape.{HasShape, credit_bits}
 use Rattle.gen_kit.specs.Replayed.{at, is_on, offer_at, host_of, input_of, payload_of}
+use Rattle.gen_kit.specs.Work.{leaf_name}
 use Rattle.leaf_tie.specs.Buffers.{link_code}
 use Rattle.leaf_tie.specs.Slots.{arriving_slot}
 use Rattle.leaf_tie.specs.Tie.{HasLink, LeafTie, LeafIn, PortIn, OfferShown, flit_code, IsWord}
@@ -43,7 +44,7 @@ use Rattle.leaf_tie.proofs.Glued.{link-there}
 use Rattle.leaf_tie.proofs.Members.{Member, in-back, holds-in}
 use Rattle.leaf_tie.proofs.Outs.{outs-shown, credits-shown}
 use Rattle.leaf_tie.proofs.Slotted.{arriving-owner}
-use Rattle.top_tie.specs.Joins.{router_name, instance_name, inside_tile, HasNet, LinkJoined, HostJoined}
+use Rattle.top_tie.specs.Joins.{instance_name, inside_tile, HasNet, LinkJoined, HostJoined}
 use Rattle.top_tie.specs.Holds.{TextSizes, FitsPlan, TileNames, bundle_bit, AreShapePorts, bundle_group, IsAmong, HoldsTile, HoldsTiles}
 use Rattle.top_tie.proofs.Joins.{TileRun, tile-run, link-joined, host-joined}
 
@@ -94,7 +95,7 @@ module _ (p : Plan) (z : TextSizes) (d : Design) (first : Name → Name → ℕ 
     h = held n below
 
     all-held : AllHold (leaf_widths (tile n below).leaf) v (all_items (leaf_groups p n h.names.kept h.names.nets h.names.ports z.base z.buffer z.slot_high z.dest_bits z.link_flit z.link_channel ++ h.others))
-    all-held = subst (AllHold (leaf_widths (tile n below).leaf) v) h.items (parts-hold d right (router_name n) (tile n below).leaf (tile n below).named v ((tile n below).runs.right t))
+    all-held = subst (AllHold (leaf_widths (tile n below).leaf) v) h.items (parts-hold d right (leaf_name n) (tile n below).leaf (tile n below).named v ((tile n below).runs.right t))
 
     out-held : (g : Group) → IsAmong h.others g → HoldsIn g (leaf_widths (tile n below).leaf) v
     out-held g m = holds-in g (leaf_groups p n h.names.kept h.names.nets h.names.ports z.base z.buffer z.slot_high z.dest_bits z.link_flit z.link_channel ++ h.others) (leaf_widths (tile n below).leaf) v

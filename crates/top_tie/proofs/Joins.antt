@@ -21,8 +21,9 @@ use Rattle.noc_model.specs.Place.{neighbour, opposite}
 use Rattle.gen_kit.specs.Ports.{host_ports}
 use Rattle.gen_kit.specs.Shape.{Tied, credit_bits, first_ties, second_ties, host_ties, link_ties, tile_ties, tile_wires, tile_instance, all_tiles, HasShape}
 use Rattle.gen_kit.specs.Replayed.{host_of}
+use Rattle.gen_kit.specs.Work.{leaf_name}
 use Rattle.gen_kit.proofs.Parts.{held-front, held-back}
-use Rattle.top_tie.specs.Joins.{router_name, instance_name, inside_tile, HasNet, LinkJoined, HostJoined}
+use Rattle.top_tie.specs.Joins.{instance_name, inside_tile, HasNet, LinkJoined, HostJoined}
 use Rattle.shape_sound.proofs.Listed.{at-number, of-mapped, of-joined}
 
 -- a tie holds
@@ -91,7 +92,7 @@ host-joined p n d v nets h all =
 -- a tile's leaf in a run of the design
 pub record TileRun (p : Plan) (d : Design) (n : ℕ) (values : ℕ → Nets) : Type 0 where
   pub leaf : Leaf
-  pub named : leaf_named d.leaves (router_name n) ≡ Some leaf
+  pub named : leaf_named d.leaves (leaf_name n) ≡ Some leaf
   pub runs : IsLeafRun leaf (λ t. inside_tile (values t) n)
   pub ties : (t : ℕ) → AllByRecursion (Holds (inside_tile (values t) n) (values t)) (tile_ties p n)
 
@@ -106,7 +107,7 @@ tile-run p d n first inputs values sound shape run below =
     let mine = at-number (λ k. InstanceHas d.leaves Runs (tile_instance p k)) (tiles p) (λ k. k)
     (of-mapped (InstanceHas d.leaves Runs) (tile_instance p) (all_tiles p)
     (held-back (InstanceHas d.leaves Runs) (flat_map (tile_wires p) (all_tiles p)) (map (tile_instance p) (all_tiles p)) each)) n below in
-    let is = of-leaf (λ l. Runs l (instance_name n) (map join_of (tile_ties p n))) (leaf_named d.leaves (router_name n)) mine in
+    let is = of-leaf (λ l. Runs l (instance_name n) (map join_of (tile_ties p n))) (leaf_named d.leaves (leaf_name n)) mine in
     record {
       leaf = is.0;
       named = is.1;

@@ -20,10 +20,11 @@ use Rattle.gen_kit.specs.Ports.{host_name}
 use Rattle.gen_kit.specs.Shape.{HasShape}
 use Rattle.gen_kit.specs.Replayed.{at, host_of, input_of}
 use Rattle.gen_kit.specs.Right.{ShowsFlit, Shows, IsRightDesign}
+use Rattle.gen_kit.specs.Work.{leaf_name}
 use Rattle.leaf_tie.specs.Outs.{LeafOut, EjectedShown}
 use Rattle.leaf_tie.specs.Glue.{next_shared}
 use Rattle.leaf_tie.proofs.Grouped.{text-starts, text-kept}
-use Rattle.top_tie.specs.Joins.{router_name, inside_tile, HostJoined}
+use Rattle.top_tie.specs.Joins.{inside_tile, HostJoined}
 use Rattle.top_tie.specs.Holds.{TextSizes, FitsPlan, HoldsTile, HoldsTiles}
 use Rattle.top_tie.specs.Laws.{RightTogether}
 use Rattle.top_tie.proofs.Joins.{TileRun}
@@ -69,7 +70,7 @@ module _ (p : Plan) (z : TextSizes) (d : Design) (first : Name → Name → ℕ 
       let h = held n below in
       let before = all-stand t n below in (
         next_shared p n t (λ k. fed.state p z d first inputs values sound fits right shape hold run k t n) (fed.given p z d first inputs values sound fits right shape hold run t n) before.0,
-        text-kept p n h.names.kept h.names.nets h.names.ports z.base z.buffer z.slot_high z.dest_bits z.link_flit z.link_channel h.others d (router_name n) (tile n below).leaf (λ k. inside_tile (values k) n) t
+        text-kept p n h.names.kept h.names.nets h.names.ports z.base z.buffer z.slot_high z.dest_bits z.link_flit z.link_channel h.others d (leaf_name n) (tile n below).leaf (λ k. inside_tile (values k) n) t
             (λ k. fed.state p z d first inputs values sound fits right shape hold run k t n) (fed.given p z d first inputs values sound fits right shape hold run t n) before.0 sound below fits.glue right (tile n below).named h.items h.joined (tile n below).runs
             (fed.leaf-in p z d first inputs values sound fits right shape hold run t (all-stand t) n below) before.1,
       )

@@ -205,10 +205,12 @@ module _ (d : Design) (sound : IsSound d) where
         let ys : List Part = map part_settled (map (part_edged T) parts) in
         record { design = d; parts = ys; tops = shown_by ys T; ports = ports }
 
-    pub edge-whole : (parts : List Part) (tops ports : List ℕ) → Stands (record { design = d; parts = parts; tops = tops; ports = ports }) a
-        → Stands (after parts tops ports) (inside_stepped d.leaves d.top.items (settled d s).inside)
+    -- over an edge, before the outputs settle and after
+    edge-both : (parts : List Part) (tops ports : List ℕ) (h : Stands (record { design = d; parts = parts; tops = tops; ports = ports }) a)
+        → AllStand h.top d.leaves (inside_stepped d.leaves d.top.items (settled d s).inside) d.top.items (map (part_edged (with_ports d.top.ports ports xs tops)) parts)
+        × Stands (after parts tops ports) (inside_stepped d.leaves d.top.items (settled d s).inside)
     unfolding settled
-    edge-whole parts tops ports h = shown t h.places b (map (part_edged T) parts) edged-all T ports roomy h.ports
+    edge-both parts tops ports h = (edged-all, shown t h.places b (map (part_edged T) parts) edged-all T ports roomy h.ports)
       where
         t : Name → ℕ
         t = h.top
@@ -269,6 +271,14 @@ module _ (d : Design) (sound : IsSound d) where
 
         edged-all : AllStand t d.leaves b d.top.items (map (part_edged T) parts)
         edged-all = all-mapped t d.leaves Known-of a b (part_edged T) one-edge d.top.items known-all parts h.parts
+
+    pub edge-parts : (parts : List Part) (tops ports : List ℕ) (h : Stands (record { design = d; parts = parts; tops = tops; ports = ports }) a)
+        → AllStand h.top d.leaves (inside_stepped d.leaves d.top.items (settled d s).inside) d.top.items (map (part_edged (with_ports d.top.ports ports xs tops)) parts)
+    edge-parts parts tops ports h = (edge-both parts tops ports h).0
+
+    pub edge-whole : (parts : List Part) (tops ports : List ℕ) → Stands (record { design = d; parts = parts; tops = tops; ports = ports }) a
+        → Stands (after parts tops ports) (inside_stepped d.leaves d.top.items (settled d s).inside)
+    edge-whole parts tops ports h = (edge-both parts tops ports h).1
 
   first-at : (ps : List Port) → First all ps → (i : ℕ) (p : Port) → slice_get ps i ≡ Some p → lookup all p.name ≡ Some (record { name = p.name; kind = way_of p.output; high = p.high; last = 0 })
   first-at [] f i p e = absurd (none-some p e)

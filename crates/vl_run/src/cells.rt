@@ -1,13 +1,13 @@
 //! Rows of numbers.
 
-ghost use Rattle.std.specs.Prelude.{◌≡◌, IfOk, replicate, slice_index, slice_set};
+ghost use Rattle.std.specs.Prelude.{◌≡◌, IfOk, length, replicate, slice_index, slice_set};
 
 use std::alloc::{AllocError, Global};
 use std::marker::Model;
 
 /// A row of numbers. Past its end all are 0, and nothing is written.
 #[derive(Drop)]
-pub(crate) struct Cells {
+pub struct Cells {
     numbers: Vec<u64>,
 }
 
@@ -28,8 +28,15 @@ impl Cells {
         Ok(Cells { numbers })
     }
 
+    /// How many numbers there are.
+    pub fn len(&self) -> usize
+        ensures { result ≡ length self.now }
+    {
+        self.numbers.len()
+    }
+
     /// The number at a place.
-    pub(crate) fn read(&self, place: usize) -> u64
+    pub fn read(&self, place: usize) -> u64
         ensures { result ≡ slice_index self.now place }
     {
         match self.numbers.get(place) {

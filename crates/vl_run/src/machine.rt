@@ -36,12 +36,13 @@ pub struct Machine {
     ports: Vec<usize>,
 }
 
-/// What a machine begins with.
+/// What a machine begins with: the instances at reset in the order of the items, the top's nets, which are all 0, and where its
+/// ports stand.
 #[derive(Drop)]
-struct Begun {
-    parts: Vec<Part>,
-    tops: Cells,
-    ports: Vec<usize>,
+pub struct Instances {
+    pub parts: Vec<Part>,
+    pub tops: Cells,
+    pub ports: Vec<usize>,
 }
 
 /// Where the ports stand.
@@ -55,7 +56,12 @@ fn port_places(alloc: Global, ports: &[Port], top: &Scope) -> Result<Vec<usize>,
     Ok(places)
 }
 
-fn begin(alloc: Global, design: &Design) -> Result<Begun, AllocError>
+/// The programs of a design's instances and their states at reset.
+///
+/// # Errors
+///
+/// Memory ran out.
+pub fn begin(alloc: Global, design: &Design) -> Result<Instances, AllocError>
     requires { IsSound (read_design design.now) }
     ensures { IfOk result (λ b. IsBegun (read_design design.now) b.parts.items b.tops b.ports.items) }
 {
@@ -68,7 +74,7 @@ fn begin(alloc: Global, design: &Design) -> Result<Begun, AllocError>
     let parts = fresh_parts(alloc, design.top.items.as_slice(), &library, &top)?;
     let tops = Cells::zeros(alloc, top.lines)?;
     let ports = port_places(alloc, design.top.ports.as_slice(), &top)?;
-    Ok(Begun { parts, tops, ports })
+    Ok(Instances { parts, tops, ports })
 }
 
 /// The number at a place, or 0 behind the last.

@@ -24,9 +24,9 @@ use vl_tree::{Join, TopItem};
 
 /// An instance: its code and its state.
 #[derive(Drop)]
-pub(crate) struct Part {
-    pub(crate) program: Program,
-    pub(crate) state: State,
+pub struct Part {
+    pub program: Program,
+    pub state: State,
 }
 
 impl Model for Part {

@@ -7,7 +7,7 @@ ghost use Rattle.vl_model.specs.Rules.{is_output_port};
 ghost use Rattle.vl_model.specs.Settle.{is_input_port};
 ghost use Rattle.vl_rules.specs.Scope.{widths_at, Declares};
 ghost use Rattle.vl_run.specs.Emit.{place_in, steps_of};
-ghost use Rattle.vl_run.specs.Program.{item_assigns, item_next, item_moves, item_stores, item_resets, free_after, assign_steps, next_steps, move_steps, stores_of, reset_steps, join_feeds, join_outs, feeds_of, outs_of};
+ghost use Rattle.vl_run.specs.Program.{item_assigns, item_next, item_moves, item_stores, item_resets, free_after, assign_steps, next_steps, move_steps, stores_of, reset_steps, join_feeds, join_outs, feeds_of, outs_of, item_registers, item_memories, registers_of, memories_of};
 ghost use Rattle.vl_run.specs.State.{code_of};
 
 use crate::emit::{Scope, emit, next, place, put};
@@ -19,34 +19,52 @@ use vl_tree::{Expr, Join, LeafItem};
 
 /// A word that a memory takes at an edge, where the enable is 1. All are places.
 #[derive(Clone, Copy)]
-pub(crate) struct Store {
-    pub(crate) memory: usize,
-    pub(crate) enable: usize,
-    pub(crate) index: usize,
-    pub(crate) value: usize,
+pub struct Store {
+    pub memory: usize,
+    pub enable: usize,
+    pub index: usize,
+    pub value: usize,
 }
 
 /// A number that goes from a place of one row to a place of another.
 #[derive(Clone, Copy)]
-pub(crate) struct Link {
-    pub(crate) from: usize,
-    pub(crate) to: usize,
+pub struct Link {
+    pub from: usize,
+    pub to: usize,
+}
+
+/// A register: its place, and its highest bit.
+#[derive(Clone, Copy)]
+pub struct Register {
+    pub place: usize,
+    pub high: u32,
+}
+
+/// A memory: its place, the highest bit of its words, and the number of the last.
+#[derive(Clone, Copy)]
+pub struct Memory {
+    pub place: usize,
+    pub high: u32,
+    pub last: u32,
 }
 
 /// The code of an instance.
 #[derive(Drop)]
-pub(crate) struct Program {
+pub struct Program {
     /// Within a cycle: the assigns.
-    pub(crate) settle: Vec<Step>,
+    pub settle: Vec<Step>,
     /// Towards an edge: what registers and memories are to take.
-    pub(crate) next: Vec<Step>,
-    pub(crate) stores: Vec<Store>,
+    pub next: Vec<Step>,
+    pub stores: Vec<Store>,
     /// At the edge: what registers take.
-    pub(crate) moves: Vec<Step>,
+    pub moves: Vec<Step>,
     /// From the top's nets to input ports.
-    pub(crate) feeds: Vec<Link>,
+    pub feeds: Vec<Link>,
     /// From output ports to the top's nets.
-    pub(crate) outs: Vec<Link>,
+    pub outs: Vec<Link>,
+    /// What the instance keeps, in order of declaration.
+    pub registers: Vec<Register>,
+    pub memories: Vec<Memory>,
 }
 
 impl Model for Program {
@@ -61,6 +79,8 @@ impl Model for Program {
       moves = p.moves.items;
       feeds = p.feeds.items;
       outs = p.outs.items;
+      registers = p.registers.items;
+      memories = p.memories.items;
     } };
 }
 
@@ -255,6 +275,61 @@ pub(crate) fn resets(
     Ok(steps)
 }
 
+fn add_register(item: &LeafItem, scope: &Scope, all: &mut Vec<Register>) -> Result<(), AllocError>
+    ensures { OnOk result (all.new.items ≡ all.old.items ++ item_registers (place_in scope.now.declared.now) (read_item item.now)) }
+{
+    match item {
+        LeafItem::Reg { high, name } => {
+            all.push(Register {
+                place: place(scope, name.as_slice()),
+                high: *high,
+            })?;
+            Ok(())
+        }
+        _ => Ok(()),
+    }
+}
+
+/// The registers that the items declare.
+#[tactic(auto, using(crate::proofs::Items::items))]
+fn registers(alloc: Global, items: &[LeafItem], scope: &Scope) -> Result<Vec<Register>, AllocError>
+    ensures { IfOk result (λ v. v.items ≡ registers_of (place_in scope.now.declared.now) (read_items items.now)) }
+{
+    let mut all = Vec::new(alloc);
+    for item in items {
+        add_register(item, scope, &mut all)?;
+    }
+    Ok(all)
+}
+
+fn add_memory(item: &LeafItem, scope: &Scope, all: &mut Vec<Memory>) -> Result<(), AllocError>
+    ensures { OnOk result (all.new.items ≡ all.old.items ++ item_memories (place_in scope.now.declared.now) (read_item item.now)) }
+{
+    match item {
+        LeafItem::Mem { high, name, last } => {
+            all.push(Memory {
+                place: place(scope, name.as_slice()),
+                high: *high,
+                last: *last,
+            })?;
+            Ok(())
+        }
+        _ => Ok(()),
+    }
+}
+
+/// The memories that the items declare.
+#[tactic(auto, using(crate::proofs::Items::items))]
+fn memories(alloc: Global, items: &[LeafItem], scope: &Scope) -> Result<Vec<Memory>, AllocError>
+    ensures { IfOk result (λ v. v.items ≡ memories_of (place_in scope.now.declared.now) (read_items items.now)) }
+{
+    let mut all = Vec::new(alloc);
+    for item in items {
+        add_memory(item, scope, &mut all)?;
+    }
+    Ok(all)
+}
+
 /// Whether the leaf has an input port of the name, and whether it has an output port of it.
 fn ways(leaf: &Known, name: &[u8]) -> (bool, bool)
     requires { Declares leaf.now.declared.now (leaf_lines (read_leaf leaf.now.leaf.now)) }
@@ -374,6 +449,8 @@ impl Program {
             moves: moves(alloc, items, &scope)?,
             feeds: feeds(alloc, joins, leaf, &scope, top)?,
             outs: outs(alloc, joins, leaf, &scope, top)?,
+            registers: registers(alloc, items, &scope)?,
+            memories: memories(alloc, items, &scope)?,
         })
     }
 }

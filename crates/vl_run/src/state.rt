@@ -21,9 +21,9 @@ use vl_tree::LeafItem;
 
 /// The numbers of an instance's nets, at the lines that declare them, and of its memories' words.
 #[derive(Drop)]
-pub(crate) struct State {
-    pub(crate) nets: Cells,
-    pub(crate) memories: Vec<Cells>,
+pub struct State {
+    pub nets: Cells,
+    pub memories: Vec<Cells>,
 }
 
 impl Model for State {

@@ -1,0 +1,4 @@
+pub mod Actions
+pub mod Running
+pub mod Latched
+pub mod Added

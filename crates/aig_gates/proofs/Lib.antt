@@ -1,0 +1,4 @@
+pub mod Inserted
+pub mod Rippled
+pub mod Zipped
+pub mod Rows

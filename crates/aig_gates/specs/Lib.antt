@@ -1,0 +1,3 @@
+pub mod Ripple
+pub mod Zips
+pub mod Memory

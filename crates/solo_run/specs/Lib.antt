@@ -1,4 +1,0 @@
-pub mod Channel
-pub mod Solo
-pub mod Parts
-pub mod Same

@@ -1,0 +1,8 @@
+use Rattle.std.proofs.Common.{◌≡◌, ◌++◌, drop}
+use Rattle.vl_tree.specs.Read.{read_items}
+use Rattle.vl_run.specs.Emit.{place_in}
+use Rattle.vl_run.specs.Program.{registers_of}
+use Rattle.vl_run.proofs.program.registers.Given as goal
+
+abbrev pub invariant-loop-item : goal.invariant-loop-item
+invariant-loop-item l = registers_of (place_in l.scope.declared.now) (read_items l.items) ≡ l.all.items ++ registers_of (place_in l.scope.declared.now) (read_items (drop l.item-index l.items))
