@@ -1,0 +1,4 @@
+pub mod Together
+pub mod Credits
+pub mod Ported
+pub mod Whole

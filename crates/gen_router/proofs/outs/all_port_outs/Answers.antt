@@ -1,0 +1,12 @@
+use Rattle.vl_tree.specs.Read.{read_leaf}
+use Rattle.leaf_parts.specs.declared.phase.Phase.TheVariants.{Nets}
+use Rattle.gen_router.specs.Ordered.{port_outs}
+use Rattle.leaf_parts.proofs.Loops.{items_none}
+use Rattle.gen_router.proofs.Together.{groups_more}
+use Rattle.gen_router.proofs.outs.all_port_outs.Goals as goal
+
+pub loop-out-init : goal.loop-out-init
+loop-out-init c = items_none (read_leaf c.args.work.now.leaf)
+
+pub loop-out-preserved : goal.loop-out-preserved
+loop-out-preserved c = groups_more Nets (port_outs c.args.plan.now c.args.tile) c.loop-out.out (read_leaf c.args.work.now.leaf) (read_leaf c.loop-out.work.leaf) (read_leaf c.port_outs.new.work.leaf) c.loop-out.invariant c.in_ok-port_outs.ensures

@@ -1,0 +1,4 @@
+pub mod Ordered
+pub mod Given
+pub mod Outs
+pub mod Ports

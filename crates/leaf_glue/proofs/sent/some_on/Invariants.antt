@@ -1,0 +1,8 @@
+use Rattle.std.proofs.Common.{◌≡◌}
+use Rattle.vl_tree.specs.Read.{read}
+use Rattle.gen_kit.specs.Families.{or_upto}
+use Rattle.leaf_glue.specs.Sent.{on_net}
+use Rattle.leaf_glue.proofs.sent.some_on.Given as goal
+
+abbrev pub invariant-loop-channel : goal.invariant-loop-channel
+invariant-loop-channel l = read l.all ≡ or_upto l.channel (on_net l.domain l.out)

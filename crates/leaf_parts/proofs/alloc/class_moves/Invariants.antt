@@ -1,0 +1,11 @@
+use Rattle.std.proofs.Common.{◌≡◌}
+use Rattle.vl_tree.specs.Read.{read_leaf}
+use Rattle.vl_model.specs.Laws.{with_items}
+use Rattle.gen_kit.specs.Families.{for_each}
+use Rattle.leaf_tie.specs.Names.{alloc_names}
+use Rattle.leaf_tie.specs.Tie.{alloc_size}
+use Rattle.leaf_tie.specs.Alloc.{active_move}
+use Rattle.leaf_parts.proofs.alloc.class_moves.Given as goal
+
+abbrev pub invariant-loop-j : goal.invariant-loop-j
+invariant-loop-j l = read_leaf l.work.leaf ≡ with_items (read_leaf l.fn.work.leaf) (for_each l.j (active_move (alloc_names l.domain l.out) (alloc_size l.plan l.domain l.out) l.class))

@@ -1,0 +1,4 @@
+pub mod Phases
+pub mod Parts
+pub mod Ways
+pub mod Entries
