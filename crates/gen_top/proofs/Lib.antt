@@ -1,0 +1,4 @@
+pub mod Rows
+pub mod ByKind
+pub mod Widths
+pub mod Whole
