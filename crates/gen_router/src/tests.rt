@@ -18,7 +18,7 @@ struct Tally {
     stores: u32,
 }
 
-fn tally(leaf: &Leaf) -> Tally {
+fn counted(leaf: &Leaf) -> Tally {
     let mut all = Tally::default();
     for item in leaf.items.as_slice() {
         match item {
@@ -51,7 +51,7 @@ fn a_leaf_drives_what_it_declares(rt: HostRuntime) -> Result<(), Fail> {
         (cube(alloc)?, 23, 12, 4),
     ] {
         let leaf = first_leaf(alloc, plan)?;
-        let all = tally(&leaf);
+        let all = counted(&leaf);
         assert_eq!(rt; leaf.ports.len(), ports);
         assert_eq!(rt; all.assigns, all.wires.wrapping_add(outputs));
         assert_eq!(rt; all.moves, all.registers);
