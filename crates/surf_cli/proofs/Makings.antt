@@ -14,7 +14,7 @@ use Rattle.desc_check.specs.Accepted.{first_fault}
 use Rattle.desc_check.specs.Upgrade.{upgrade_of}
 use Rattle.surf_cli.specs.Jobs.{Simulate, Upgrade}
 use Rattle.surf_cli.specs.Simulate.{reports_text}
-use Rattle.surf_cli.specs.Meaning.{Outcome, Makes, Does, Exactly, UpgradeOf, Judged, Described, judged_plan, judged_draft, judged, with_plan, with_trace, over}
+use Rattle.surf_cli.specs.Meaning.{Outcome, Makes, Does, Exactly, UpgradeOf, Described, judged_plan, judged_draft, judged, with_plan, with_trace, over}
 use Rattle.surf_cli.specs.Answers.{IsRefused}
 
 -- the bytes are exactly those that are to be written

@@ -1,6 +1,6 @@
 -- A domain that is looked for, and its report.
-use Rattle.std.proofs.Common.{◌≡◌, ◌<◌, ℕ, List, length, inr, refl, ◌∙◌, ap, sym, subst}
-use Rattle.std.specs.Prelude.{Option, Some, None}
+use Rattle.std.proofs.Common.{◌≡◌, ℕ, List, inr, refl, ◌∙◌, ap, sym, subst}
+use Rattle.std.specs.Prelude.{Option, None}
 use Rattle.noc_model.specs.Plan.{Plan, domain_named}
 use Rattle.trace_read.specs.declared.entries.Entry.{Entry}
 use Rattle.surf_cli.specs.declared.statuses.End.{End}

@@ -1,5 +1,5 @@
 -- A run whose files were not read, and what a run has done where nothing failed.
-use Rattle.std.proofs.Common.{◌⊎◌, inl, inr, ◌≡◌, ◌≢◌, ℕ, List, [], refl, sym, ap, subst, arith}
+use Rattle.std.proofs.Common.{◌⊎◌, inl, inr, ◌≡◌, ◌≢◌, ℕ, List, [], refl, sym, subst, arith}
 use Rattle.std.specs.Prelude.{Option, Some}
 use Rattle.surf_base.specs.Outside.{Rose}
 use Rattle.surf_base.specs.declared.reading.TakeFault.{TakeFault}

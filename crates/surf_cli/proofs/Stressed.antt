@@ -1,5 +1,5 @@
 -- The summary of a run that the drawn trace drives is that of each domain alone.
-use Rattle.std.proofs.Common.{◌≡◌, ℕ, ◌<◌, List, length, ap, ◌∙◌}
+use Rattle.std.proofs.Common.{◌≡◌, ℕ, List, length, ap, ◌∙◌}
 use Rattle.noc_model.specs.declared.Event.{Event}
 use Rattle.noc_model.specs.Plan.{Plan}
 use Rattle.trace_read.specs.declared.entries.Entry.{Entry}
@@ -7,7 +7,7 @@ use Rattle.stress_gen.specs.Corners.{shared_corners}
 use Rattle.stress_gen.specs.Sends.{stress_trace}
 use Rattle.stress_gen.specs.Summary.{summary_line}
 use Rattle.surf_cli.specs.Simulate.{AreAlone, events_of, events_alone}
-use Rattle.surf_cli.specs.Stress.{summary_of, stress_events, stress_text}
+use Rattle.surf_cli.specs.Stress.{summary_of, stress_text}
 use Rattle.surf_cli.proofs.Texts.{texts-same}
 
 summary-alone : (p : Plan) (events : List Event) (es : List Entry) (cycles : ℕ) → AreAlone p events es cycles

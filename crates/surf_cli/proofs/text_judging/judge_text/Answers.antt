@@ -1,9 +1,8 @@
-use Rattle.std.proofs.Common.{◌≡◌, None, Some, ap, sym, subst, ◌∙◌}
+use Rattle.std.proofs.Common.{◌≡◌, ap, sym, ◌∙◌}
 use Rattle.vl_tree.specs.Values.{Design}
 use Rattle.vl_tree.specs.Read.{read_design}
 use Rattle.vl_tree.proofs.Designs.{plain_spelled}
 use Rattle.vl_rules.specs.Answer.{design_of}
-use Rattle.vl_model.specs.Rules.{first_fault}
 use Rattle.gen_kit.specs.Ports.{ports_fault}
 use Rattle.surf_cli.proofs.TextReads.{read-fault, judged-unread, judged-unsound, judged-other, text-sound, text-refused}
 use Rattle.surf_cli.proofs.text_judging.judge_text.Goals as goal
