@@ -13,3 +13,4 @@ pub mod Runnings
 pub mod TextReads
 pub mod Replays
 pub mod Replaying
+pub mod Compiled

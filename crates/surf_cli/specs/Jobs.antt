@@ -14,6 +14,7 @@ pub data Job : Type 0 where
   Replay : (cycles : ℕ) → Job
   Audit : Job
   Stress : (number cycles : ℕ) → Job
+  Compile : Job
 
 -- the files that the words name, and what is to be done
 pub record Command : Type 0 where

@@ -21,3 +21,4 @@ pub mod Answers
 pub mod Runs
 pub mod Reading
 pub mod Laws
+pub mod Compiled

@@ -16,6 +16,7 @@ use Rattle.trace_read.specs.declared.fault.TraceFault.{TraceFault}
 use Rattle.trace_read.specs.Entries.{entries}
 use Rattle.trace_read.specs.Accepted as trace
 use Rattle.vl_tree.specs.Values.{Design}
+use Rattle.gen_kit.specs.Right.{IsRightText}
 use Rattle.vl_tree.specs.declared.fault.TextFault.{TextFault}
 use Rattle.label_audit.specs.declared.leaks.Verdict.TheVariants.{Clean, Leak as LeakAt}
 use Rattle.label_audit.specs.Audited.{IsAudit}
@@ -26,7 +27,7 @@ use Rattle.surf_cli.specs.declared.refusals.Refusal.{Refusal}
 use Rattle.surf_cli.specs.declared.refusals.Refusal.TheVariants.{Description, NoDomain, Text, Trace, Leak}
 use Rattle.surf_cli.specs.Files.{NamedFile, limit_of}
 use Rattle.surf_cli.specs.Contents.{Contents, nothing, with_content}
-use Rattle.surf_cli.specs.Jobs.{Job, Schedule, Check, Routes, Simulate, Report, Upgrade, Replay, Audit, Stress, Command}
+use Rattle.surf_cli.specs.Jobs.{Job, Schedule, Check, Routes, Simulate, Report, Upgrade, Replay, Audit, Stress, Compile, Command}
 use Rattle.surf_cli.specs.Schedule.{schedule_text}
 use Rattle.surf_cli.specs.Accepted.{accepted_text}
 use Rattle.surf_cli.specs.Routes.{routes_text}
@@ -36,10 +37,11 @@ use Rattle.surf_cli.specs.TextRead.{judged_text}
 use Rattle.surf_cli.specs.Replay.{replayed_text}
 use Rattle.surf_cli.specs.AuditLines.{isolated_text}
 
--- what is to be written: these bytes, or a document of version 2 that says this plan
+-- what is to be written: these bytes, a document of version 2 that says this plan, or a right text of it
 pub data Work : Type 0 where
   Exactly : (bytes : List ℕ) → Work
   UpgradeOf : (plan : Plan) → Work
+  TextOf : (plan : Plan) → Work
 
 -- what a command comes to: a text is written, or the run ends so, or as the audit of a design for a plan ends
 pub data Outcome : Type 0 where
@@ -76,6 +78,7 @@ judged bytes = judged_draft (table.first_fault bytes) (draft_of bytes)
 abbrev pub IsRight : Work → List ℕ → Type 0
 IsRight (Exactly right) bytes = bytes ≡ right
 IsRight (UpgradeOf plan) bytes = (table_of bytes ≡ Some (document (upgrade_of plan))) × (judged bytes ≡ Described plan)
+IsRight (TextOf plan) bytes = IsRightText plan bytes
 
 -- what a command goes on to with what a description says
 abbrev pub with_judged : Judged → (Plan → Outcome) → Outcome
@@ -127,6 +130,7 @@ over (Replay cycles) held = with_plan held.description (λ p. with_text p held.t
     with_trace p held.trace (λ es. Does (Exactly (replayed_text p d es cycles)))))
 over Audit held = with_plan held.description (λ p. with_text p held.text (λ d. Audits p d))
 over (Stress number cycles) held = Does (Exactly (stress_text number cycles))
+over Compile held = with_plan held.description (λ p. Does (TextOf p))
 
 -- what a command may write where it ends well: bytes that are right for its work; an audit writes its line for a design
 -- that is clean

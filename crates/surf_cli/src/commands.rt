@@ -9,6 +9,7 @@ ghost use Rattle.surf_cli.specs.Spoken.{command, job, gathered};
 
 mod audit;
 mod check;
+mod compile;
 mod replay;
 mod report;
 mod routes;
@@ -63,6 +64,8 @@ pub(crate) enum Job<'a> {
         /// The number of cycles.
         cycles: u32,
     },
+    /// A Verilog text that is the network.
+    Compile,
 }
 
 /// What the words ask for.
@@ -93,6 +96,7 @@ pub(crate) fn command_of(words: &[String]) -> Option<Command<'_>>
         "replay" => replay::words(args),
         "audit" => audit::words(args),
         "stress" => stress::words(args),
+        "compile" => compile::words(args),
         _ => None,
     }
 }
@@ -113,6 +117,7 @@ fn text_for(alloc: Global, asked: Job<'_>, contents: Contents) -> Result<Text, E
         Job::Replay { cycles } => replay::make(alloc, contents, cycles),
         Job::Audit => audit::make(alloc, contents),
         Job::Stress { number, cycles } => stress::make(alloc, contents, number, cycles),
+        Job::Compile => compile::make(alloc, contents),
     }
 }
 

@@ -8,6 +8,7 @@ ghost use Rattle.vl_tree.specs.Values.{Design};
 ghost use Rattle.vl_tree.specs.Spells.{Spells};
 ghost use Rattle.vl_tree.specs.Faults.{IsReadFault};
 ghost use Rattle.vl_tree.specs.declared.fault.TextFault.{TextFault};
+ghost use Rattle.surf_cli.specs.Compiled.{CompiledIsSimulated, CompileThenReplay, CompiledDomainsApart};
 ghost use Rattle.surf_cli.specs.Laws.{ReplayIsSimulate, CommandsAgree};
 ghost use Rattle.surf_cli.specs.Simulate.{report_text};
 ghost use Rattle.surf_cli.specs.TextRead.{text_read};
@@ -34,4 +35,18 @@ pub fn texts_as_refused()
 pub fn replay_is_simulate()
     ensures text { ReplayIsSimulate }
     ensures commands { CommandsAgree }
+{}
+
+/// What `compile` writes is the network that is simulated: whatever text it may write for a description, `replay` of
+/// that text and `simulate` come to the same end, with the same bytes, for every trace and cycle count. So it is by the
+/// words of the command line too, where the text is within its file's limit.
+pub fn compiled_is_simulated()
+    ensures contents { CompiledIsSimulated }
+    ensures words { CompileThenReplay }
+{}
+
+/// In what `compile` writes domains don't interfere: in every run of such a text a domain's outputs depend on its own
+/// inputs alone.
+pub fn compiled_domains_apart()
+    ensures { CompiledDomainsApart }
 {}
