@@ -753,6 +753,27 @@ end 3 0 2 0\n",
 }
 
 #[test]
+fn a_compiled_text_replays_as_the_simulation(rt: HostRuntime) -> Result<(), Fail> {
+    let rows = [
+        (ONE_TILE, ONE_WORD, "simulate d t 6", "replay d v t 6"),
+        (ONE_PLACE, DEAF, "simulate d t 16", "replay d v t 16"),
+        (ONE_LINK, MEET, "simulate d t 12", "replay d v t 12"),
+    ];
+    for (content, trace, simulated, replayed) in rows {
+        let held = Some(content.as_bytes());
+        let (status, text, err) = run(&rt, "compile d", held, None, &[], &[])?;
+        assert!(rt; status == Status::Good, "{content}");
+        assert_eq!(rt; err.as_str(), "", "{content}");
+        let (_, reports, _) = run(&rt, simulated, held, Some(trace), &[], &[])?;
+        let (status, out, err) = replay(&rt, replayed, content, text.as_bytes(), trace)?;
+        assert!(rt; status == Status::Good, "{content}");
+        assert_eq!(rt; out.as_str(), reports.as_str(), "{content}");
+        assert_eq!(rt; err.as_str(), "", "{content}");
+    }
+    Ok(())
+}
+
+#[test]
 fn refused_texts_say_why(rt: HostRuntime) -> Result<(), Fail> {
     let alloc = rt.alloc();
     let dropping = one_leaf(alloc, READY, DROPPED)?;
