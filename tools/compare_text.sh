@@ -4,15 +4,17 @@
 # Usage: tools/compare_text.sh DESCRIPTION TEXT TRACE CYCLES [SURF]
 # SURF is the program, `surf` of this checkout where it isn't named. Files go to a folder that is removed at the end.
 # Other tools begin with memories of unknown bits, `surf` with 0: a text that shows what a memory held at first may differ.
+# The status is 1 where a report differs or Verilator refuses the text.
 set -eu
 top=$(dirname "$(dirname "$(readlink -f "$0")")")
 if [ $# -lt 4 ]; then
-  sed -n '2,6s/^# //p' "$0" >&2
+  sed -n '2,7s/^# //p' "$0" >&2
   exit 2
 fi
 description=$(readlink -f "$1") text=$(readlink -f "$2") trace=$(readlink -f "$3") cycles=$4 surf=${5:-$top/surf}
 folder=$(mktemp -d)
 trap 'rm -rf "$folder"' EXIT
+differ=0
 TIMEFORMAT=%R
 
 # The test bench: the words and holds of the trace at the ports of the text's last module.
@@ -122,13 +124,22 @@ run() {
   echo "$tool: status $status, $cycles cycles in $seconds s"
 }
 
+# Compares the report of the tool that is named with that of `surf`.
+compare() {
+  if cmp "$folder/surf.report" "$2"; then
+    echo "$1: the same reports"
+  else
+    differ=1
+  fi
+}
+
 run surf "$folder/surf.report" "$surf" replay "$description" "$text" "$trace" "$cycles"
 bench
 if command -v iverilog >/dev/null; then
   iverilog -g2005 -o "$folder/icarus" "$folder/bench.v" "$text"
   run "Icarus Verilog" "$folder/icarus.out" vvp -n "$folder/icarus"
   reports "$folder/icarus.out" >"$folder/icarus.report"
-  cmp "$folder/surf.report" "$folder/icarus.report" && echo "Icarus Verilog: the same reports"
+  compare "Icarus Verilog" "$folder/icarus.report"
 else
   echo "Icarus Verilog is not installed: skipped"
 fi
@@ -136,10 +147,12 @@ if command -v verilator >/dev/null; then
   if verilator --binary --timing -Wno-fatal -Wno-lint --Mdir "$folder/verilated" --top-module bench "$folder/bench.v" "$text" >"$folder/said" 2>&1; then
     run Verilator "$folder/verilator.out" "$folder/verilated/Vbench"
     reports "$folder/verilator.out" >"$folder/verilator.report"
-    cmp "$folder/surf.report" "$folder/verilator.report" && echo "Verilator: the same reports"
+    compare Verilator "$folder/verilator.report"
   else
     tail -n 5 "$folder/said"
+    differ=1
   fi
 else
   echo "Verilator is not installed: skipped"
 fi
+exit "$differ"
