@@ -1,0 +1,7 @@
+pub mod Bits
+pub mod Placed
+pub mod Rows
+pub mod Laid
+pub mod Shown
+pub mod Inputs
+pub mod Plain
