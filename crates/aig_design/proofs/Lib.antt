@@ -5,3 +5,4 @@ pub mod Laid
 pub mod Shown
 pub mod Inputs
 pub mod Plain
+pub mod Given
