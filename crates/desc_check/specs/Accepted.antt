@@ -1,4 +1,4 @@
--- A draft's first fault: a condition is looked at only where no smaller number holds.
+-- A draft's first fault: each is looked for only where none of a smaller number was found.
 use Rattle.std.specs.Prelude.{◌≤◌, [], ◌∷◌, length, Option}
 use Rattle.noc_model.specs.Limits.{most_sides, most_tiles, most_buffer, most_domains}
 use Rattle.noc_model.specs.Plan.{Plan, tiles, places}
@@ -29,7 +29,7 @@ abbrev pub ranges_fault : Draft → Option DescFault
 ranges_fault d = first_of (range_tile_fault (tile_count d.dims) d.ranges ∷ range_order_fault d.ranges
     ∷ range_overlap_fault d.ranges ∷ [])
 
--- what the places of a plan are counted from is in range
+-- what the buffer slots of a plan are counted from is in range
 pub record IsSized (p : Plan) : Type 0 where
   pub dims : length p.dims ≤ most_sides
   pub sides : AreSides p.dims
@@ -38,7 +38,7 @@ pub record IsSized (p : Plan) : Type 0 where
   pub domains : length p.domains ≤ most_domains
   pub channels : HaveChannels p.domains
 
--- the plan has too many places or attachments
+-- the plan has too many buffer slots or attachments
 abbrev pub plan_fault : Plan → Option DescFault
 plan_fault p = first_of (places_fault (places p) ∷ attach_fault (length p.hosts) ∷ [])
 

@@ -35,7 +35,7 @@ has_sides version dims = is_between 1 (sides_allowed version) (length dims) && l
 abbrev pub dims_fault : ℤ → List ℤ → Option DescFault
 dims_fault version dims = fault_if (not (has_sides version dims)) Dims
 
--- a link has no stage, or too many
+-- a link has no register, or too many
 abbrev pub stages_fault : ℤ → Option DescFault
 stages_fault stages = fault_if (not (is_within 1 most_stages stages)) Stages
 

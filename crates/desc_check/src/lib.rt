@@ -50,7 +50,7 @@ fn lists_fault(draft: &Draft) -> Option<DescFault>
     ranges::ranges_fault(tiles, draft)
 }
 
-/// More places than a network may have.
+/// More buffer slots than a network may have.
 fn places_fault(count: u32) -> Option<DescFault>
     ensures { result ≡ places_fault count }
 {
@@ -67,7 +67,7 @@ fn attach_fault(hosts: &[Host]) -> Option<DescFault>
     )
 }
 
-/// Too many places or attachments.
+/// Too many buffer slots or attachments.
 fn plan_fault(parts: &Parts) -> Option<DescFault>
     requires { IsSized (plan_of parts.now) }
     ensures { result ≡ plan_fault (plan_of parts.now) }

@@ -16,7 +16,7 @@ use noc_model::{DomainPart, Host, Parts, Range};
 use std::alloc::{AllocError, Global};
 use surf_base::Bytes;
 
-/// The places of a link.
+/// The registers of a link.
 fn stages_of(draft: &Draft) -> u32
     requires { is_within 1 most_stages draft.now.stages ≡ true }
     ensures { result ≡ number_of draft.now.stages }
@@ -24,7 +24,7 @@ fn stages_of(draft: &Draft) -> u32
     draft.stages as u32
 }
 
-/// The flits that a channel may hold.
+/// The flits that a channel's buffer may hold.
 fn buffer_of(draft: &Draft) -> u32
     requires { is_within 1 most_buffer draft.now.buffer ≡ true }
     ensures { result ≡ number_of draft.now.buffer }

@@ -1,3 +1,5 @@
+//! Worked descriptions: their lines of faults, their plans, and the descriptions that say a plan.
+
 use super::{check, draft_of, fault_line};
 use noc_desc::{read_draft, write_draft};
 use std::alloc::Global;

@@ -8,7 +8,7 @@ use Rattle.noc_model.specs.Step.{one_if}
 
 -- ---- widths
 
--- the least b, of those from this one on, with n at most two to b, where so many are tried
+-- the least b from this one on with n at most two to b, of as many as are tried
 abbrev pub bits_from : ℕ → ℕ → ℕ → ℕ
 bits_from zero b n = b
 bits_from (suc fuel) b n = if nat_le n (2 ^ b) then b else bits_from fuel (b + 1) n
@@ -52,7 +52,8 @@ above high low_bits low = high * 2 ^ low_bits + low
 abbrev pub flit_word : Plan → Flit → ℕ
 flit_word p f = above (above (above (one_if f.head) 1 (one_if f.tail)) (dest_bits p) f.dest) 32 f.payload
 
--- the word of a link's place: 0 where it is empty, else from the most significant bit a 1, the channel, the flit's word
+-- the word of a link register: 0 where it is empty, else from the most significant bit a 1, the channel, the flit's
+-- word
 abbrev pub link_word : Plan → Option LinkFlit → ℕ
 link_word p None = 0
 link_word p (Some x) = above (above 1 (channel_bits p) x.channel) (flit_bits p) (flit_word p x.flit)

@@ -3,7 +3,7 @@
 //! A flit is the unit of flow control (Dally and Towles, chapter 12). A packet is one flit or more, the first of them
 //! its head and the last its tail. The definitions of the network speak of these four types, so `noc_model` declares
 //! them, and this part hands them on under the names that everything above uses. [`to_word`] and [`to_link`] write a
-//! flit and a link's place as the bits that hardware has; no two flits have one word.
+//! flit and a link register as the bits that hardware has; no two flits have one word.
 #![tactic(auto)]
 
 #[cfg(test)]

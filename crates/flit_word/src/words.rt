@@ -1,4 +1,4 @@
-//! Flits and places of links as bits.
+//! Flits and link registers as bits.
 
 ghost use Rattle.std.specs.Prelude.{◌≡◌, ◌<◌, ◌≤◌, ◌^◌, ◌+◌, ℕ, IfSome};
 ghost use Rattle.noc_model.specs.declared.Flit.{Flit as FlitValue};
@@ -55,7 +55,7 @@ pub fn of_word(plan: &Plan, word: u64) -> Flit
     }
 }
 
-/// The word of a link's place, below two to `link_bits`: 0 where it is empty, else from the most significant bit a 1,
+/// The word of a link register, below two to `link_bits`: 0 where it is empty, else from the most significant bit a 1,
 /// the channel and the flit's word.
 pub fn to_link(plan: &Plan, item: Option<LinkFlit>) -> u64
     requires dest { IfSome item (λ x. x.flit.dest < tiles plan.now) }

@@ -31,7 +31,7 @@ items_by f (x ∷ xs) = item (f x) (items_by f xs)
 abbrev pub array_by : {A : Type 0} → (A → Data) → List A → Data
 array_by f xs = array (items_by f xs)
 
--- the table of a domain
+-- the members of a domain's table
 abbrev pub domain_members : DraftDomain → Members
 domain_members d = put Name (string d.name) (put Channels (integer d.channels) no_members)
 
@@ -39,7 +39,7 @@ domain_members d = put Name (string d.name) (put Channels (integer d.channels) n
 abbrev pub domain_data : DraftDomain → Data
 domain_data d = table (domain_members d)
 
--- the table of a tile
+-- the members of a tile's table
 abbrev pub tile_members : DraftTile → Members
 tile_members t = put Hosts (array_by string t.domains) (put At (integer t.at) no_members)
 
@@ -47,7 +47,7 @@ tile_members t = put Hosts (array_by string t.domains) (put At (integer t.at) no
 abbrev pub tile_data : DraftTile → Data
 tile_data t = table (tile_members t)
 
--- the table of a range
+-- the members of a range's table
 abbrev pub range_members : DraftRange → Members
 range_members r = put InTile (integer r.tile) (put Last (integer r.last) (put First (integer r.first) no_members))
 

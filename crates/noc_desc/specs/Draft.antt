@@ -26,7 +26,7 @@ first_fault bytes = fault_of (table_of bytes)
 abbrev pub draft_of : List ℕ → Option Draft
 draft_of bytes = option_map draft_at (table_of bytes)
 
--- an allocation was refused, which says nothing of the bytes
+-- memory ran out, which says nothing of the bytes
 abbrev pub IsMemory : DescFault → Type 0
 IsMemory (Memory e) = Unit {0}
 IsMemory _ = ⊥

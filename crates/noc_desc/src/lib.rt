@@ -92,7 +92,7 @@ pub enum DescFault {
     /// Two ranges have an address in common.
     #[error("ranges {0} and {1} overlap")]
     RangeOverlap(u64, u64),
-    /// The buffers have too many places: their number.
+    /// There are too many buffer slots: their number.
     #[error("{0} places are too many")]
     PlacesMany(u64),
     /// There are too many attachments: their number.

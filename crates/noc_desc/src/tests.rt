@@ -1,3 +1,5 @@
+//! Worked descriptions: their drafts, their first faults, and drafts that are written.
+
 ghost use Rattle.std.specs.Prelude.{IfOk};
 ghost use Rattle.noc_desc.specs.Document.{AreTexts};
 

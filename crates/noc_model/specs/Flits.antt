@@ -26,7 +26,7 @@ abbrev pub in_lists : Plan → ℕ → ℕ → Tile → List Flit
 in_lists p d n s = gathered (ports p)
     (λ port. where_there (is_port p n port) (gathered (in_channels p d port) (s.queue port)))
 
--- the flit of a link's place
+-- the flit of a link register
 abbrev pub flit_of : Option LinkFlit → List Flit
 flit_of None = []
 flit_of (Some x) = x.flit ∷ []

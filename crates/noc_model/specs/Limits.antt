@@ -13,7 +13,7 @@ most_side = 16
 abbrev pub most_tiles : ℕ
 most_tiles = 256
 
--- stages of a link
+-- registers of a link
 abbrev pub most_stages : ℕ
 most_stages = 4
 

@@ -25,7 +25,7 @@ pub record AreWholePackets (fs : List Flit) : Type 0 where
   pub last : Option ℕ
   pub packets : ArePackets None fs last
 
--- the flits of a channel on the first k places of a row, the oldest first
+-- the flits of a channel in the first k registers of a link, the oldest first
 abbrev pub on_way : ℕ → (ℕ → Option LinkFlit) → ℕ → List Flit
 on_way zero row w = []
 on_way (suc k) row w = flit_on (row k) w ++ on_way k row w

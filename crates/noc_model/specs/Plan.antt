@@ -86,7 +86,7 @@ out_channels p d port = at_local port 1 (link_channels p d)
 abbrev pub all_link_channels : ℕ → List DomainPart → ℕ
 all_link_channels class_count xs = sum_by (λ (x : DomainPart). class_count * x.channels) xs
 
--- the places for flits in the network's input buffers, where every port counts as one with a link
+-- the buffer slots of the network, where every port counts as one with a link
 abbrev pub places : Plan → ℕ
 places p = tiles p * ports p * all_link_channels (classes p) p.domains * p.buffer
 

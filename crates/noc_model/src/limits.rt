@@ -9,7 +9,7 @@ pub const MOST_SIDE: u32 = 16;
 /// Tiles in all.
 pub const MOST_TILES: u32 = 256;
 
-/// Stages of a link.
+/// Registers of a link.
 pub const MOST_STAGES: u32 = 4;
 
 /// Flits in a channel's buffer.

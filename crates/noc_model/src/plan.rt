@@ -29,7 +29,7 @@ pub struct Parts {
     pub torus: bool,
     /// The tiles along each dimension, one to three sides.
     pub dims: Vec<u32>,
-    /// The places of a link, 1 to 4: a flit is on it for as many cycles.
+    /// The registers of a link, 1 to 4: a flit is on it for as many cycles.
     pub stages: u32,
     /// The flits that an input channel may hold, 1 to 16.
     pub buffer: u32,
@@ -45,8 +45,7 @@ pub struct Parts {
 impl Parts {
     ghost use Rattle.noc_model.specs.PlanOf.{plan_of};
 
-    /// The places for flits in the input buffers of a network of these parts, where every port counts as one with a
-    /// link.
+    /// The buffer slots of a network of these parts, where every port counts as one with a link.
     pub fn places(&self) -> u32
         requires dims { length self.now.dims.items ≤ most_sides }
         requires sides { AreSides self.now.dims.items }
@@ -132,7 +131,7 @@ impl Plan {
         self.parts.torus
     }
 
-    /// The places of a link, 1 to 4.
+    /// The registers of a link, 1 to 4.
     pub fn stages(&self) -> u32
         ensures { result ≡ self.now.stages }
     {
@@ -208,7 +207,7 @@ impl Plan {
         classes_of(self.parts.torus)
     }
 
-    /// The places for flits in the network's input buffers, at most 24,576, where every port counts as one with a link.
+    /// The buffer slots of the network, at most 24,576, where every port counts as one with a link.
     pub fn places(&self) -> u32
         ensures { result ≡ places self.now }
     {

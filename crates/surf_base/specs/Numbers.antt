@@ -37,7 +37,7 @@ are_digits radix bytes = list_all (λ c. nat_lt (digit_value c) radix) bytes
 abbrev pub is_numeral : ℕ → ℕ → List ℕ → Bool
 is_numeral radix longest bytes = nat_le 1 (length bytes) && (nat_le (length bytes) longest && are_digits radix bytes)
 
--- 1 to 10 decimal digits that write a number of at most `most`
+-- whether the bytes are 1 to 10 decimal digits that write a number of at most `most`
 abbrev pub is_decimal : ℕ → List ℕ → Bool
 is_decimal most bytes = is_numeral 10 10 bytes && nat_le (decimal_value bytes) most
 
@@ -45,7 +45,7 @@ is_decimal most bytes = is_numeral 10 10 bytes && nat_le (decimal_value bytes) m
 unfoldable pub decimal_in : ℕ → List ℕ → Option ℕ
 decimal_in most bytes = if is_decimal most bytes then Some (decimal_value bytes) else None
 
--- 1 to 8 hexadecimal digits, in either case
+-- whether the bytes are 1 to 8 hexadecimal digits, in either case
 abbrev pub is_hex : List ℕ → Bool
 is_hex bytes = is_numeral 16 8 bytes
 

@@ -1,3 +1,5 @@
+//! Files over memory, for tests.
+
 ghost use Rattle.std.specs.Prelude.{◌≡◌, ◌≢◌, ℕ, ◌+◌, ◌^◌, ◌<◌, ◌≤◌, ◌⊎◌, ◌↔◌, List, [], length, take, drop, true, false, Option, Some, None, MatchOption, OnOk, OnErr, IfOk, IsErr, is_ok};
 ghost use Rattle.surf_base.specs.Outside.{Absent, Holds, Rose, HandsOn, EndsAt};
 ghost use Rattle.surf_base.specs.HeldIn.{held_in, content_at};
@@ -7,6 +9,7 @@ use crate::script::Script;
 use crate::seq::Bytes;
 use std::alloc::{AllocError, Global};
 
+/// A file, by its name and its content.
 #[derive(Drop)]
 struct MemFile {
     name: Bytes,
@@ -15,7 +18,7 @@ struct MemFile {
 
 /// Files over memory, for tests: calls fail where a script says so.
 ///
-/// Calls of `open_name` and `read` count from 1 together. A name that was not put is absent.
+/// Calls of `open_name` and `read` are counted together, from 1. A name that was not put is absent.
 #[derive(Drop)]
 pub struct MemFiles {
     alloc: Global,

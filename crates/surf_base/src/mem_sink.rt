@@ -1,3 +1,5 @@
+//! A sink over memory, for tests.
+
 ghost use Rattle.std.specs.Prelude.{◌≡◌, ◌-◌, ◌<◌, ◌≤◌, ◌⊎◌, ◌↔◌, [], length, take, Some, OnErr, IfOk, IsErr, vec_len, vec_capacity};
 ghost use Rattle.surf_base.specs.Outside.{Rose, appended};
 ghost use Rattle.surf_base.specs.Script.{FailsNext, CountsCall};

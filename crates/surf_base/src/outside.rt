@@ -1,3 +1,5 @@
+//! What files and sinks are.
+
 ghost use Rattle.std.specs.Prelude.{◌≡◌, ℕ, ◌+◌, ◌^◌, ◌<◌, ◌≤◌, ◌⊎◌, List, length, take, Bool, true, Option, Some, None, OnOk, OnErr, IfOk, IsErr, is_ok};
 ghost use Rattle.surf_base.specs.Outside.{Held, Absent, Holds, Rose, HandsOn, EndsAt, appended};
 

@@ -1,3 +1,5 @@
+//! Reading a whole file.
+
 ghost use Rattle.std.specs.Prelude.{◌≡◌, ℕ, ◌+◌, ◌^◌, ◌<◌, ◌≤◌, ◌⊎◌, List, [], length, true, Some, None, OnOk, OnErr, IfOk, IsErrOf, vec_len};
 ghost use Rattle.surf_base.specs.Outside.{Absent, Holds, Rose, HandsOn, EndsAt};
 ghost use Rattle.surf_base.specs.Taken.{OnFailed, OnTooLong, UnlessTooLong, content_of};

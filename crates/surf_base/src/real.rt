@@ -1,3 +1,5 @@
+//! The files and the sinks of the machine.
+
 ghost use Rattle.std.specs.Prelude.{◌≡◌, None, is_some};
 ghost use Rattle.surf_base.specs.Outside.{Unobserved};
 
@@ -93,7 +95,7 @@ impl<W: io::Write + Drop> Sink for RealSink<W> {
 
     ghost faults = { λ sink. sink.faults };
 
-    // A write of 0 bytes counts as a fault, since it would never end.
+    /// A write of 0 bytes counts as a fault, since it would never end.
     fn write(&mut self, piece: &[u8]) -> Result<usize, Failed> {
         match self.writer.write(piece) {
             Ok(count) if 0 < count => Ok(count),

@@ -1,3 +1,5 @@
+//! Which calls of a fake fail.
+
 ghost use Rattle.std.specs.Prelude.{◌≡◌, ◌≤◌, ◌↔◌, IsTrue, IfOk};
 ghost use Rattle.surf_base.specs.Outside.{Rose};
 ghost use Rattle.surf_base.specs.Script.{raised, FailsNext};

@@ -1,3 +1,5 @@
+//! Lists, files, sinks, blocks and numbers by worked rows.
+
 use super::*;
 use std::fs;
 use std::test::Fail;

@@ -1,3 +1,5 @@
+//! Writing all of some bytes.
+
 ghost use Rattle.std.specs.Prelude.{◌≡◌, ◌<◌, ◌≤◌, OnOk, OnErr};
 ghost use Rattle.surf_base.specs.Outside.{Rose, appended, GotPrefix};
 

@@ -7,7 +7,7 @@ use noc_model::Driving;
 
 /// What is outside of a network: at each attachment it offers words, and hears what is given out.
 ///
-/// What it answers for an attachment changes only by calls of `taken` and `got` that name that attachment.
+/// Calls of `taken` and `got` for an attachment change what it answers there. No other call does.
 pub trait Drive: Driving {
     /// The word that is offered at the attachment in the cycle, if there is one.
     fn offer(&self, attach: u32, cycle: u32) -> Option<Offer>

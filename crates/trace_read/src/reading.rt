@@ -14,8 +14,8 @@ use std::alloc::Global;
 ///
 /// # Errors
 ///
-/// The first fault of the first faulty line, exactly where a line is faulty, and `Memory` where an allocation was
-/// refused.
+/// The first fault of the first faulty line, exactly where a line is faulty, and `Memory` when memory runs
+/// out.
 pub fn read_trace(alloc: Global, plan: &Plan, bytes: &[u8]) -> Result<Trace, TraceFault>
     ensures ok { IfOk result (λ trace. trace_of plan.now bytes.now ≡ Some trace) }
     ensures err { IfErr result (λ e. MemoryOr e (first_fault plan.now bytes.now ≡ Some e)) }

@@ -160,6 +160,7 @@ pub fn goes_on(ts: Ahead<'_>) -> bool
     }
 }
 
+/// The operator of a symbol.
 fn op_of(text: &[u8]) -> Option<Op>
     ensures { result ≡ reading.op_of text.now }
 {
@@ -182,6 +183,7 @@ fn op_of(text: &[u8]) -> Option<Op>
     }
 }
 
+/// The direction that a word names: true is output.
 fn way_of(text: &[u8]) -> Option<bool>
     ensures { result ≡ reading.way_of text.now }
 {
@@ -194,6 +196,7 @@ fn way_of(text: &[u8]) -> Option<bool>
     }
 }
 
+/// The operator of the next token, if it is one.
 fn the_op(ts: Ahead<'_>) -> Option<Op>
     ensures { result ≡ next_by reading.the_op (placed ts.entry) }
 {
@@ -203,6 +206,7 @@ fn the_op(ts: Ahead<'_>) -> Option<Op>
     }
 }
 
+/// The direction of the next token, if it is one.
 fn the_way(ts: Ahead<'_>) -> Option<bool>
     ensures { result ≡ next_by reading.the_way (placed ts.entry) }
 {

@@ -8,7 +8,7 @@ use std::alloc::AllocError;
 /// Why reading stopped.
 #[derive(Debug, Drop)]
 pub enum ReadError {
-    /// There wasn't memory enough.
+    /// Memory ran out.
     Memory(AllocError),
     /// No token fits; so many bytes are left from there on.
     At(usize),

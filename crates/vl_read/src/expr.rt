@@ -34,6 +34,7 @@ pub enum Rest {
     Which(Expr, Expr),
 }
 
+/// The expression of a name and of what stands behind it.
 fn picked(alloc: Global, n: Name, pick: Pick) -> Result<Expr, AllocError>
     ensures { IfOk result (λ e. read e ≡ reading.picked_of n (pick_of pick)) }
 {
@@ -45,12 +46,14 @@ fn picked(alloc: Global, n: Name, pick: Pick) -> Result<Expr, AllocError>
     }
 }
 
+/// The complement of an expression.
 fn complement(alloc: Global, e: Expr) -> Result<Expr, AllocError>
     ensures { IfOk result (λ r. read r ≡ values.not (read e)) }
 {
     Ok(Expr::Not(Boxed::new(alloc, e)?))
 }
 
+/// The expression of a first operand and of what stands behind it.
 fn joined(alloc: Global, a: Expr, rest: Rest) -> Result<Expr, AllocError>
     ensures { IfOk result (λ e. read e ≡ reading.rest_of (read a) (rest_of rest)) }
 {
@@ -64,6 +67,7 @@ fn joined(alloc: Global, a: Expr, rest: Rest) -> Result<Expr, AllocError>
     }
 }
 
+/// A bit or a part, behind the opening bracket.
 #[tactic(auto, unfolding(vl_tree::specs::Reading::both, vl_tree::specs::Reading::made, vl_tree::specs::Reading::either, vl_tree::specs::Reading::numbers_at))]
 fn numbers<'a>(ts: Ahead<'a>) -> Result<(Pick, Ahead<'a>), ReadError>
     ensures { Gives (λ x. (pick_of x.0, placed x.1)) result (reading.numbers_at (placed ts.entry)) }
@@ -79,6 +83,7 @@ fn numbers<'a>(ts: Ahead<'a>) -> Result<(Pick, Ahead<'a>), ReadError>
     Ok((Pick::Part(high, low), ts))
 }
 
+/// An expression of at most so many levels.
 #[cycle(expr)]
 #[tactic(auto, using(crate::proofs::Levels::expr_none, crate::proofs::Levels::expr_some))]
 fn expr<'a>(alloc: Global, ts: Ahead<'a>, depth: u32) -> Result<(Expr, Ahead<'a>), ReadError>
@@ -90,6 +95,7 @@ fn expr<'a>(alloc: Global, ts: Ahead<'a>, depth: u32) -> Result<(Expr, Ahead<'a>
     level(alloc, ts, depth - 1)
 }
 
+/// One level: a name with what stands behind it, a constant, a group or a concatenation.
 #[cycle(expr)]
 #[tactic(auto, unfolding(vl_tree::specs::Reading::level_at, vl_tree::specs::Reading::either, vl_tree::specs::Reading::made))]
 fn level<'a>(alloc: Global, ts: Ahead<'a>, depth: u32) -> Result<(Expr, Ahead<'a>), ReadError>
@@ -106,6 +112,7 @@ fn level<'a>(alloc: Global, ts: Ahead<'a>, depth: u32) -> Result<(Expr, Ahead<'a
     deep(alloc, ts, depth)
 }
 
+/// A name with what stands behind it.
 #[cycle(expr)]
 #[tactic(auto, unfolding(vl_tree::specs::Reading::both, vl_tree::specs::Reading::made))]
 fn named<'a>(alloc: Global, ts: Ahead<'a>, depth: u32) -> Result<(Expr, Ahead<'a>), ReadError>
@@ -117,6 +124,7 @@ fn named<'a>(alloc: Global, ts: Ahead<'a>, depth: u32) -> Result<(Expr, Ahead<'a
     Ok((picked(alloc, n, pick)?, ts))
 }
 
+/// What stands behind a name: nothing, or what is in square brackets.
 #[cycle(expr)]
 #[tactic(auto, unfolding(vl_tree::specs::Reading::pick_at, vl_tree::specs::Reading::either, vl_tree::specs::Reading::both, vl_tree::specs::Reading::made, vl_tree::specs::Reading::nothing))]
 fn behind_name<'a>(alloc: Global, ts: Ahead<'a>, depth: u32) -> Result<(Pick, Ahead<'a>), ReadError>
@@ -130,6 +138,7 @@ fn behind_name<'a>(alloc: Global, ts: Ahead<'a>, depth: u32) -> Result<(Pick, Ah
     index(alloc, ts, depth)
 }
 
+/// What stands behind an opening bracket: the numbers of bits, or the index of a memory's word.
 #[cycle(expr)]
 #[tactic(auto, using(crate::proofs::Levels::deeper_none, crate::proofs::Levels::deeper_some), unfolding(vl_tree::specs::Reading::either))]
 fn index<'a>(alloc: Global, ts: Ahead<'a>, depth: u32) -> Result<(Pick, Ahead<'a>), ReadError>
@@ -145,6 +154,7 @@ fn index<'a>(alloc: Global, ts: Ahead<'a>, depth: u32) -> Result<(Pick, Ahead<'a
     word(alloc, ts, depth)
 }
 
+/// The index of a memory's word, and its closing bracket.
 #[cycle(expr)]
 #[tactic(auto, unfolding(vl_tree::specs::Reading::both, vl_tree::specs::Reading::made))]
 fn word<'a>(alloc: Global, ts: Ahead<'a>, depth: u32) -> Result<(Pick, Ahead<'a>), ReadError>
@@ -155,6 +165,7 @@ fn word<'a>(alloc: Global, ts: Ahead<'a>, depth: u32) -> Result<(Pick, Ahead<'a>
     Ok((Pick::Word(e), ts))
 }
 
+/// A group or a concatenation, where there is a level left for its parts.
 #[cycle(expr)]
 #[tactic(auto, using(crate::proofs::Levels::deeper_none, crate::proofs::Levels::deeper_some), unfolding(vl_tree::specs::Reading::either))]
 fn deep<'a>(alloc: Global, ts: Ahead<'a>, depth: u32) -> Result<(Expr, Ahead<'a>), ReadError>
@@ -170,6 +181,7 @@ fn deep<'a>(alloc: Global, ts: Ahead<'a>, depth: u32) -> Result<(Expr, Ahead<'a>
     cat(alloc, ts, depth)
 }
 
+/// What stands in round brackets: a complement, a choice, or an operator over two operands.
 #[cycle(expr)]
 #[tactic(auto, unfolding(vl_tree::specs::Reading::group_at, vl_tree::specs::Reading::both, vl_tree::specs::Reading::made))]
 fn group<'a>(alloc: Global, ts: Ahead<'a>, depth: u32) -> Result<(Expr, Ahead<'a>), ReadError>
@@ -181,6 +193,7 @@ fn group<'a>(alloc: Global, ts: Ahead<'a>, depth: u32) -> Result<(Expr, Ahead<'a
     Ok((e, ts))
 }
 
+/// What stands between round brackets.
 #[cycle(expr)]
 #[tactic(auto, unfolding(vl_tree::specs::Reading::either, vl_tree::specs::Reading::both, vl_tree::specs::Reading::made))]
 fn inside<'a>(alloc: Global, ts: Ahead<'a>, depth: u32) -> Result<(Expr, Ahead<'a>), ReadError>
@@ -196,6 +209,7 @@ fn inside<'a>(alloc: Global, ts: Ahead<'a>, depth: u32) -> Result<(Expr, Ahead<'
     Ok((joined(alloc, a, rest)?, ts))
 }
 
+/// An operator and its second operand, or a question mark and both branches.
 #[cycle(expr)]
 #[tactic(auto, unfolding(vl_tree::specs::Reading::rest_at, vl_tree::specs::Reading::either, vl_tree::specs::Reading::both, vl_tree::specs::Reading::made))]
 fn behind_first<'a>(
@@ -218,6 +232,7 @@ fn behind_first<'a>(
     Ok((Rest::Which(b, c), ts))
 }
 
+/// A concatenation, which has a part at least.
 #[cycle(expr)]
 #[tactic(auto, using(crate::proofs::Levels::cat_done), unfolding(vl_tree::specs::Reading::cat_at, vl_tree::specs::Reading::both, vl_tree::specs::Reading::made))]
 fn cat<'a>(alloc: Global, ts: Ahead<'a>, depth: u32) -> Result<(Expr, Ahead<'a>), ReadError>
@@ -229,6 +244,7 @@ fn cat<'a>(alloc: Global, ts: Ahead<'a>, depth: u32) -> Result<(Expr, Ahead<'a>)
     Ok((Expr::Cat(parts), ts))
 }
 
+/// A part of a concatenation, with the comma before it.
 #[cycle(expr)]
 #[tactic(auto, unfolding(vl_tree::specs::Reading::both, vl_tree::specs::Reading::made))]
 fn part<'a>(alloc: Global, ts: Ahead<'a>, depth: u32) -> Result<(Expr, Ahead<'a>), ReadError>
@@ -239,6 +255,7 @@ fn part<'a>(alloc: Global, ts: Ahead<'a>, depth: u32) -> Result<(Expr, Ahead<'a>
     Ok((e, ts))
 }
 
+/// The parts of a concatenation behind the first one, and the brace that closes them.
 #[cycle(expr)]
 fn parts<'a>(
     alloc: Global,

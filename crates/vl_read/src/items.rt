@@ -37,6 +37,7 @@ pub fn wire<'a>(alloc: Global, ts: Ahead<'a>) -> Result<((u32, Name), Ahead<'a>)
     Ok(((high, name), ts))
 }
 
+/// The declaration of a register or of a memory.
 #[tactic(auto, unfolding(vl_tree::specs::Reading::both, vl_tree::specs::Reading::made, vl_tree::specs::Reading::either, vl_tree::specs::Reading::reg_at))]
 fn reg<'a>(alloc: Global, ts: Ahead<'a>) -> Result<(LeafItem, Ahead<'a>), ReadError>
     ensures { Gives (λ x. (read_item x.0, placed x.1)) result (reading.reg_at (placed ts.entry)) }
@@ -56,6 +57,7 @@ fn reg<'a>(alloc: Global, ts: Ahead<'a>) -> Result<(LeafItem, Ahead<'a>), ReadEr
     Ok((LeafItem::Mem { high, name, last }, ts))
 }
 
+/// An assign.
 #[tactic(auto, unfolding(vl_tree::specs::Reading::both, vl_tree::specs::Reading::made, vl_tree::specs::Reading::assign_at))]
 fn assign<'a>(alloc: Global, ts: Ahead<'a>) -> Result<(LeafItem, Ahead<'a>), ReadError>
     ensures { Gives (λ x. (read_item x.0, placed x.1)) result (reading.assign_at (placed ts.entry)) }
@@ -68,6 +70,7 @@ fn assign<'a>(alloc: Global, ts: Ahead<'a>) -> Result<(LeafItem, Ahead<'a>), Rea
     Ok((LeafItem::Assign { name, value }, ts))
 }
 
+/// The move of a register, from the word `rst` on.
 #[tactic(auto, unfolding(vl_tree::specs::Reading::both, vl_tree::specs::Reading::made, vl_tree::specs::Reading::clocked_at))]
 fn clocked<'a>(alloc: Global, ts: Ahead<'a>) -> Result<(LeafItem, Ahead<'a>), ReadError>
     ensures { Gives (λ x. (read_item x.0, placed x.1)) result (reading.clocked_at (placed ts.entry)) }
@@ -84,6 +87,7 @@ fn clocked<'a>(alloc: Global, ts: Ahead<'a>) -> Result<(LeafItem, Ahead<'a>), Re
     Ok((LeafItem::Clocked { name, reset, value }, ts))
 }
 
+/// A store into a memory, from its enable on.
 #[tactic(auto, unfolding(vl_tree::specs::Reading::both, vl_tree::specs::Reading::made, vl_tree::specs::Reading::store_at))]
 fn store<'a>(alloc: Global, ts: Ahead<'a>) -> Result<(LeafItem, Ahead<'a>), ReadError>
     ensures { Gives (λ x. (read_item x.0, placed x.1)) result (reading.store_at (placed ts.entry)) }
@@ -107,6 +111,7 @@ fn store<'a>(alloc: Global, ts: Ahead<'a>) -> Result<(LeafItem, Ahead<'a>), Read
     ))
 }
 
+/// The move of a register, or a store into a memory.
 #[tactic(auto, unfolding(vl_tree::specs::Reading::both, vl_tree::specs::Reading::made, vl_tree::specs::Reading::either, vl_tree::specs::Reading::always_at))]
 fn always<'a>(alloc: Global, ts: Ahead<'a>) -> Result<(LeafItem, Ahead<'a>), ReadError>
     ensures { Gives (λ x. (read_item x.0, placed x.1)) result (reading.always_at (placed ts.entry)) }

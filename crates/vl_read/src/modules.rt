@@ -16,6 +16,7 @@ use vl_tree::{
     Design, Join, Joins, Leaf, LeafItems, Leaves, Name, Port, Ports, Top, TopItem, TopItems,
 };
 
+/// A port with the comma before it.
 #[tactic(auto, unfolding(vl_tree::specs::Reading::both, vl_tree::specs::Reading::made, vl_tree::specs::Reading::port_at))]
 fn one_port<'a>(alloc: Global, ts: Ahead<'a>) -> Result<(Port, Ahead<'a>), ReadError>
     ensures { Gives (λ x. (x.0, placed x.1)) result (reading.port_at (placed ts.entry)) }
@@ -28,6 +29,7 @@ fn one_port<'a>(alloc: Global, ts: Ahead<'a>) -> Result<(Port, Ahead<'a>), ReadE
     Ok((Port { output, high, name }, ts))
 }
 
+/// The ports of a module, and the end of its port list.
 #[tactic(auto, using(crate::proofs::Lists::more_none))]
 fn port_list<'a>(alloc: Global, ts: Ahead<'a>) -> Result<(Ports, Ahead<'a>), ReadError>
     ensures { Gives (λ x. ((x.0, tt), placed x.1)) result (parts.ports_at (placed ts.entry)) }
@@ -43,6 +45,7 @@ fn port_list<'a>(alloc: Global, ts: Ahead<'a>) -> Result<(Ports, Ahead<'a>), Rea
     Ok((ports, ts))
 }
 
+/// What stands between a module's name and its items.
 #[tactic(auto, unfolding(vl_tree::specs::Reading::both, vl_tree::specs::Reading::made, vl_tree::specs::Reading::head_at))]
 fn head<'a>(alloc: Global, ts: Ahead<'a>) -> Result<(Ports, Ahead<'a>), ReadError>
     ensures { Gives (λ x. (x.0, placed x.1)) result (reading.head_at (placed ts.entry)) }
@@ -52,6 +55,7 @@ fn head<'a>(alloc: Global, ts: Ahead<'a>) -> Result<(Ports, Ahead<'a>), ReadErro
     Ok((ports, ts))
 }
 
+/// The items of a leaf, its end, and the word that begins the next module.
 #[tactic(auto, using(crate::proofs::Lists::more_none))]
 fn item_list<'a>(alloc: Global, ts: Ahead<'a>) -> Result<(LeafItems, Ahead<'a>), ReadError>
     ensures { Gives (λ x. ((read_items x.0, tt), placed x.1)) result (parts.items_at (placed ts.entry)) }
@@ -67,6 +71,7 @@ fn item_list<'a>(alloc: Global, ts: Ahead<'a>) -> Result<(LeafItems, Ahead<'a>),
     Ok((items, ts))
 }
 
+/// A leaf from its name on, with the word that begins the next module.
 #[tactic(auto, unfolding(vl_tree::specs::Reading::both, vl_tree::specs::Reading::made, vl_tree::specs::Reading::leaf_at))]
 fn one_leaf<'a>(alloc: Global, ts: Ahead<'a>) -> Result<(Leaf, Ahead<'a>), ReadError>
     ensures { Gives (λ x. (read_leaf x.0, placed x.1)) result (reading.leaf_at (placed ts.entry)) }
@@ -77,6 +82,7 @@ fn one_leaf<'a>(alloc: Global, ts: Ahead<'a>) -> Result<(Leaf, Ahead<'a>), ReadE
     Ok((Leaf { name, ports, items }, ts))
 }
 
+/// A join with the comma before it.
 #[tactic(auto, unfolding(vl_tree::specs::Reading::both, vl_tree::specs::Reading::made, vl_tree::specs::Reading::join_at))]
 fn one_join<'a>(alloc: Global, ts: Ahead<'a>) -> Result<(Join, Ahead<'a>), ReadError>
     ensures { Gives (λ x. (x.0, placed x.1)) result (reading.join_at (placed ts.entry)) }
@@ -89,6 +95,7 @@ fn one_join<'a>(alloc: Global, ts: Ahead<'a>) -> Result<(Join, Ahead<'a>), ReadE
     Ok((Join { port, net }, ts))
 }
 
+/// The joins of an instance, and its end.
 #[tactic(auto, using(crate::proofs::Lists::more_none))]
 fn join_list<'a>(alloc: Global, ts: Ahead<'a>) -> Result<(Joins, Ahead<'a>), ReadError>
     ensures { Gives (λ x. ((x.0, tt), placed x.1)) result (parts.joins_at (placed ts.entry)) }
@@ -104,6 +111,7 @@ fn join_list<'a>(alloc: Global, ts: Ahead<'a>) -> Result<(Joins, Ahead<'a>), Rea
     Ok((joins, ts))
 }
 
+/// The name of an instance, and what stands before its joins.
 #[tactic(auto, unfolding(vl_tree::specs::Reading::both, vl_tree::specs::Reading::made))]
 fn instance_name<'a>(alloc: Global, ts: Ahead<'a>) -> Result<(Name, Ahead<'a>), ReadError>
     ensures { Gives (λ x. (x.0, placed x.1)) result (parts.instance_name_at (placed ts.entry)) }
@@ -113,6 +121,7 @@ fn instance_name<'a>(alloc: Global, ts: Ahead<'a>) -> Result<(Name, Ahead<'a>), 
     Ok((name, ts))
 }
 
+/// An instance with its joins.
 #[tactic(auto, unfolding(vl_tree::specs::Reading::both, vl_tree::specs::Reading::made, vl_tree::specs::Reading::instance_at))]
 fn instance<'a>(alloc: Global, ts: Ahead<'a>) -> Result<(TopItem, Ahead<'a>), ReadError>
     ensures { Gives (λ x. (x.0, placed x.1)) result (reading.instance_at (placed ts.entry)) }
@@ -123,6 +132,7 @@ fn instance<'a>(alloc: Global, ts: Ahead<'a>) -> Result<(TopItem, Ahead<'a>), Re
     Ok((TopItem::Instance { leaf, name, joins }, ts))
 }
 
+/// A wire of the top, or an instance.
 #[tactic(auto, unfolding(vl_tree::specs::Reading::either, vl_tree::specs::Reading::made, vl_tree::specs::Reading::top_item_at))]
 fn top_item<'a>(alloc: Global, ts: Ahead<'a>) -> Result<(TopItem, Ahead<'a>), ReadError>
     ensures { Gives (λ x. (x.0, placed x.1)) result (reading.top_item_at (placed ts.entry)) }
@@ -134,6 +144,7 @@ fn top_item<'a>(alloc: Global, ts: Ahead<'a>) -> Result<(TopItem, Ahead<'a>), Re
     instance(alloc, ts)
 }
 
+/// The items of the top, and its end.
 #[tactic(auto, using(crate::proofs::Lists::more_none))]
 fn top_list<'a>(alloc: Global, ts: Ahead<'a>) -> Result<(TopItems, Ahead<'a>), ReadError>
     ensures { Gives (λ x. ((x.0, tt), placed x.1)) result (parts.top_items_at (placed ts.entry)) }
@@ -149,6 +160,7 @@ fn top_list<'a>(alloc: Global, ts: Ahead<'a>) -> Result<(TopItems, Ahead<'a>), R
     Ok((items, ts))
 }
 
+/// The top from its word `noc` on.
 #[tactic(auto, unfolding(vl_tree::specs::Reading::both, vl_tree::specs::Reading::made, vl_tree::specs::Reading::top_at))]
 fn the_top<'a>(alloc: Global, ts: Ahead<'a>) -> Result<(Top, Ahead<'a>), ReadError>
     ensures { Gives (λ x. (x.0, placed x.1)) result (reading.top_at (placed ts.entry)) }
@@ -159,6 +171,7 @@ fn the_top<'a>(alloc: Global, ts: Ahead<'a>) -> Result<(Top, Ahead<'a>), ReadErr
     Ok((Top { ports, items }, ts))
 }
 
+/// All leaves, and then the top.
 #[tactic(auto, using(crate::proofs::Lists::more_none))]
 fn body<'a>(alloc: Global, ts: Ahead<'a>) -> Result<((Leaves, Top), Ahead<'a>), ReadError>
     ensures { Gives (λ x. ((read_leaves x.0.0, x.0.1), placed x.1)) result (parts.modules_behind (placed ts.entry)) }
@@ -174,6 +187,7 @@ fn body<'a>(alloc: Global, ts: Ahead<'a>) -> Result<((Leaves, Top), Ahead<'a>), 
     Ok(((leaves, top), ts))
 }
 
+/// The design, where no token is left behind it.
 #[tactic(auto, unfolding(vl_tree::specs::Reading::both, vl_tree::specs::Reading::made, vl_tree::specs::Reading::modules_at))]
 fn modules<'a>(alloc: Global, ts: Ahead<'a>) -> Result<(Design, Ahead<'a>), ReadError>
     ensures { Gives (λ x. (read_design x.0, placed x.1)) result (reading.modules_at (placed ts.entry)) }

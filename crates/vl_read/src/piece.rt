@@ -31,18 +31,21 @@ pub struct Piece<'a> {
     pub len: usize,
 }
 
+/// Space, tab, LF and CR.
 fn is_blank(b: u8) -> bool
     ensures { result ≡ tokens.is_blank b }
 {
     b == 32 || b == 9 || b == 10 || b == 13
 }
 
+/// Whether the byte is a symbol by itself.
 fn is_symbol(b: u8) -> bool
     ensures { result ≡ tokens.is_symbol b }
 {
     b"()[]{};:,.@+-&|^~?<=".iter().any(|c| *c == b)
 }
 
+/// Whether a run is a word of the grammar, none of which is a name.
 fn is_word(bytes: &[u8]) -> bool
     ensures { result ≡ tokens.is_word bytes.now }
 {
@@ -52,6 +55,7 @@ fn is_word(bytes: &[u8]) -> bool
     )
 }
 
+/// A blank or a comment of so many bytes.
 fn gap<'a>(len: usize) -> Option<Piece<'a>>
     ensures { option_map piece_of result ≡ Some (tokens.gap len) }
 {

@@ -1,3 +1,5 @@
+//! Worked texts: their designs, or their first faults and places.
+
 use super::*;
 use std::alloc::{AllocError, Global};
 use std::test::*;

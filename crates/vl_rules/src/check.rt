@@ -63,6 +63,7 @@ pub fn fault(rule: Rule, line: u64) -> TextFault
     }
 }
 
+/// The rule, with the tables that it needs of the module.
 fn prepare(alloc: Global, rule: Rule, site: &Site) -> Result<Check, AllocError>
     requires { IsKnown site.now }
     ensures ready { IfOk result (IsReady site.now) }
@@ -83,6 +84,7 @@ fn prepare(alloc: Global, rule: Rule, site: &Site) -> Result<Check, AllocError>
     }
 }
 
+/// Whether the check finds a fault at the line.
 fn breaks(
     alloc: Global,
     check: &Check,

@@ -35,6 +35,7 @@ pub fn reads_early(site: &Site, assigned: &Names<usize>, number: usize, line: &L
     }
 }
 
+/// Whether what is declared in this way is driven from within its module.
 fn wants_driver(kind: Kind) -> bool
     ensures { result ≡ rules.wants_driver kind }
 {
@@ -67,6 +68,7 @@ pub fn is_through(site: &Site, dependents: &Names<()>, line: &Line) -> bool
     }
 }
 
+/// How often each port is joined, where two stands for all that is more.
 fn port_counts(alloc: Global, joins: &[Join]) -> Result<Names<u8>, AllocError>
     ensures { IfOk result (λ t. (n : Name) → count t n ≡ min 2 (count_by (λ (j : Join). bytes_eq n j.port) joins.now)) }
 {
@@ -77,6 +79,7 @@ fn port_counts(alloc: Global, joins: &[Join]) -> Result<Names<u8>, AllocError>
     Ok(table)
 }
 
+/// Whether the port is joined exactly once.
 fn is_once(counts: &Names<u8>, port: &Port, joins: &[Join]) -> bool
     requires { (n : Name) → count counts.now n ≡ min 2 (count_by (λ (j : Join). bytes_eq n j.port) joins.now) }
     ensures { result ≡ (count_by (λ (j : Join). bytes_eq port.now.name j.port) joins.now == 1) }
@@ -84,6 +87,7 @@ fn is_once(counts: &Names<u8>, port: &Port, joins: &[Join]) -> bool
     counts.get(port.name.as_slice()).unwrap_or(0) == 1
 }
 
+/// Whether each of the ports is joined exactly once.
 fn each_once(counts: &Names<u8>, ports: &[Port], joins: &[Join]) -> bool
     requires { (n : Name) → count counts.now n ≡ min 2 (count_by (λ (j : Join). bytes_eq n j.port) joins.now) }
     ensures { result ≡ list_all (λ (p : Port). count_by (λ (j : Join). bytes_eq p.name j.port) joins.now == 1)

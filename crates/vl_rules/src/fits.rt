@@ -19,6 +19,7 @@ use crate::uses::{UseTest, any_use, index_fits};
 use crate::widths::width;
 use vl_tree::{Expr, Join, LeafItem, TopItem};
 
+/// Whether the expression's widths agree, and it is so wide.
 fn is_as_wide(site: &Site, number: usize, e: &Expr, wide: u64) -> bool
     ensures { result ≡ (agrees (widths_at site.now.declared.now number) (read e.now)
         && (width_of (widths_at site.now.declared.now number) (read e.now) == wide)) }
@@ -29,12 +30,14 @@ fn is_as_wide(site: &Site, number: usize, e: &Expr, wide: u64) -> bool
     }
 }
 
+/// Whether the expression's widths agree.
 fn does_agree(site: &Site, number: usize, e: &Expr) -> bool
     ensures { result ≡ agrees (widths_at site.now.declared.now number) (read e.now) }
 {
     width(e, site.declared, number).is_some()
 }
 
+/// Whether the widths of an item are at most 64 and agree.
 fn fits_item(site: &Site, number: usize, subject: &LeafItem) -> bool
     ensures { result ≡ rules.line_fits (leaves_before site.now) (widths_at site.now.declared.now number)
         (item (read_item subject.now)) }
@@ -65,6 +68,7 @@ fn fits_item(site: &Site, number: usize, subject: &LeafItem) -> bool
     }
 }
 
+/// Whether the net of a join is as wide as the port.
 fn fits_join(site: &Site, number: usize, leaf: &Known, join: &Join) -> bool
     requires { Declares leaf.now.declared.now (leaf_lines (read_leaf leaf.now.leaf.now)) }
     ensures { result ≡ rules.join_fits (widths_at site.now.declared.now number) join.now.net
@@ -78,6 +82,7 @@ fn fits_join(site: &Site, number: usize, leaf: &Known, join: &Join) -> bool
     }
 }
 
+/// Whether each join ties a port and a net of one width.
 fn fits_joins(site: &Site, number: usize, leaf: &Known, joins: &[Join]) -> bool
     requires { Declares leaf.now.declared.now (leaf_lines (read_leaf leaf.now.leaf.now)) }
     ensures { result
@@ -92,6 +97,7 @@ fn fits_joins(site: &Site, number: usize, leaf: &Known, joins: &[Join]) -> bool
     true
 }
 
+/// Whether the widths of a line are at most 64 and agree.
 fn fits(site: &Site, number: usize, line: &Line) -> bool
     requires { IsKnown site.now }
     ensures { result ≡ rules.line_fits (leaves_before site.now) (widths_at site.now.declared.now number)
@@ -130,6 +136,7 @@ fn is_size(words: u64) -> bool
     }
 }
 
+/// Whether the index has exactly the bits for the memory's words.
 fn one_fits(site: &Site, number: usize, memory: &[u8], index: &Expr) -> bool
     requires { IsKnown site.now }
     ensures { result ≡ rules.use_fits (lines_before site.now number)
@@ -138,6 +145,7 @@ fn one_fits(site: &Site, number: usize, memory: &[u8], index: &Expr) -> bool
     index_fits(site.declared, number, memory, index)
 }
 
+/// Whether each index in the expression fits its memory.
 fn indexes_fit(site: &Site, number: usize, e: &Expr) -> bool
     requires { IsKnown site.now }
     ensures { result ≡ list_all (rules.use_fits (lines_before site.now number)) (uses_of (read e.now)) }
@@ -145,6 +153,7 @@ fn indexes_fit(site: &Site, number: usize, e: &Expr) -> bool
     !any_use(e, &UseTest::Unfit(site.declared, number))
 }
 
+/// Whether the indexes of a store fit their memories.
 #[tactic(auto, using(crate::proofs::Judged::uses))]
 fn store_fits(
     site: &Site,

@@ -44,6 +44,7 @@ fn sum(a: u64, b: usize) -> Result<u64, AllocError>
     }
 }
 
+/// A leaf among the others.
 fn leaf_site<'a>(library: &'a Library<'a>, number: usize) -> Site<'a>
     requires library { IsLibrary library.now }
     requires within { number < length library.now.leaves.now }
@@ -61,6 +62,7 @@ fn leaf_site<'a>(library: &'a Library<'a>, number: usize) -> Site<'a>
     }
 }
 
+/// The top, behind all leaves.
 fn top_site<'a>(library: &'a Library<'a>, top: &'a Top, declared: &'a Names<Entry>) -> Site<'a>
     requires library { IsLibrary library.now }
     requires declared { Declares declared.now (top_lines top.now) }
@@ -110,6 +112,7 @@ fn first_line<'a>(
     }
 }
 
+/// The fault of a rule at the first line that breaks it.
 fn rule_fault<'a>(
     alloc: Global,
     rule: Rule,
@@ -128,6 +131,7 @@ fn rule_fault<'a>(
     }
 }
 
+/// The fault of the first of these rules that is broken.
 #[tactic(auto, using(crate::proofs::Ruled::fault_at))]
 fn first_of<'a>(
     alloc: Global,
@@ -151,8 +155,8 @@ fn first_of<'a>(
     Ok(None)
 }
 
-#[tactic(auto, unfolding(vl_model::specs::Rules::first_fault))]
 /// The first of faults 4 to 11 of the design, if it has one.
+#[tactic(auto, unfolding(vl_model::specs::Rules::first_fault))]
 pub fn first_fault(alloc: Global, design: &Design) -> Result<Option<TextFault>, AllocError>
     ensures { IfOk result (λ r. r ≡ model.first_fault (read_design design.now)) }
 {

@@ -32,6 +32,7 @@ pub fn repeats(site: &Site, number: usize, line: &Line) -> bool
     }
 }
 
+/// Whether the name is declared before the line, in the role.
 fn is_declared(site: &Site, number: usize, name: &[u8], role: Role) -> bool
     requires { IsKnown site.now }
     ensures { result ≡ rules.is_kind (role_passes role) (lines_before site.now number) name.now }
@@ -39,12 +40,14 @@ fn is_declared(site: &Site, number: usize, name: &[u8], role: Role) -> bool
     is_role(site.declared, number, name, role)
 }
 
+/// Whether neither holds.
 fn neither(a: bool, b: bool) -> bool
     ensures { result ≡ (not a && not b) }
 {
     !a && !b
 }
 
+/// Whether each net and each memory that the expression reads is declared as one.
 fn knows(site: &Site, number: usize, e: &Expr) -> bool
     requires { IsKnown site.now }
     ensures { result ≡ rules.knows (lines_before site.now number) (read e.now) }
@@ -54,6 +57,7 @@ fn knows(site: &Site, number: usize, e: &Expr) -> bool
     neither(nets, memories)
 }
 
+/// Whether each name that an item uses is declared before it in the right way.
 fn knows_item(site: &Site, number: usize, subject: &LeafItem) -> bool
     requires { IsKnown site.now }
     ensures { result ≡ rules.line_known (leaves_before site.now) (lines_before site.now number)
@@ -81,6 +85,7 @@ fn knows_item(site: &Site, number: usize, subject: &LeafItem) -> bool
     }
 }
 
+/// Whether a join ties an output port to what may be driven, or an input port to a net.
 fn knows_join(site: &Site, number: usize, leaf: &Known, join: &Join) -> bool
     requires known { IsKnown site.now }
     requires leaf { Declares leaf.now.declared.now (leaf_lines (read_leaf leaf.now.leaf.now)) }
@@ -100,6 +105,7 @@ fn knows_join(site: &Site, number: usize, leaf: &Known, join: &Join) -> bool
     }
 }
 
+/// Whether each join does.
 fn knows_joins(site: &Site, number: usize, leaf: &Known, joins: &[Join]) -> bool
     requires known { IsKnown site.now }
     requires leaf { Declares leaf.now.declared.now (leaf_lines (read_leaf leaf.now.leaf.now)) }

@@ -37,6 +37,7 @@ pub struct Shape {
     pub high: u32,
 }
 
+/// The number of the first leaf of each name.
 fn numbers(alloc: Global, leaves: &[Leaf]) -> Result<Names<usize>, AllocError>
     ensures { IfOk result (λ t. (n : Name) → found t n ≡ first_leaf (read_leaves leaves.now) n) }
 {
@@ -47,6 +48,7 @@ fn numbers(alloc: Global, leaves: &[Leaf]) -> Result<Names<usize>, AllocError>
     Ok(table)
 }
 
+/// What each leaf declares.
 fn declared(alloc: Global, leaves: &[Leaf]) -> Result<Vec<Names<Entry>>, AllocError>
     ensures { IfOk result (λ v. AreDeclared leaves.now v.items) }
 {
@@ -117,6 +119,7 @@ pub fn port(known: &Known, name: &[u8]) -> Option<Shape>
     }
 }
 
+/// The shape of what is declared as a port.
 fn port_shape(kind: Kind, high: u32) -> Option<Shape>
     ensures { result ≡ kind_shape kind high }
 {

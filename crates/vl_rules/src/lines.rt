@@ -33,18 +33,21 @@ pub struct Declared<'a> {
     pub last: u32,
 }
 
+/// How many lines a leaf has.
 fn leaf_len(leaf: &Leaf) -> usize
     ensures { result ≡ length (leaf_lines (read_leaf leaf.now)) }
 {
     1 + leaf.ports.as_slice().len() + leaf.items.as_slice().len()
 }
 
+/// How many lines the top has.
 fn top_len(top: &Top) -> usize
     ensures { result ≡ length (top_lines top.now) }
 {
     1 + top.ports.as_slice().len() + top.items.as_slice().len()
 }
 
+/// The line of this number of a leaf.
 fn leaf_line<'a>(leaf: &'a Leaf, number: usize) -> Line<'a>
     requires { number < length (leaf_lines (read_leaf leaf.now)) }
     ensures { slice_get (leaf_lines (read_leaf leaf.now)) number ≡ Some (line_of result) }
@@ -59,6 +62,7 @@ fn leaf_line<'a>(leaf: &'a Leaf, number: usize) -> Line<'a>
     Line::Item(leaf.items.at(number - 1 - ports))
 }
 
+/// The line of this number of the top.
 fn top_line<'a>(top: &'a Top, number: usize) -> Line<'a>
     requires { number < length (top_lines top.now) }
     ensures { slice_get (top_lines top.now) number ≡ Some (line_of result) }
@@ -96,12 +100,14 @@ impl<'a> Module<'a> {
     }
 }
 
+/// The way in which a port is declared.
 fn way(output: bool) -> Kind
     ensures { result ≡ way_of output }
 {
     if output { Kind::Output } else { Kind::Input }
 }
 
+/// A declaration of the name.
 fn named<'a>(name: &'a [u8], kind: Kind, high: u32, last: u32) -> Option<Declared<'a>>
     ensures { option_map shown result ≡ Some (record { name = name.now; kind = kind; high = high; last = last }) }
 {

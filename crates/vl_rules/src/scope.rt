@@ -40,6 +40,7 @@ pub fn seen_before(table: &Names<Entry>, number: usize, name: &[u8]) -> Option<E
     }
 }
 
+/// Adds what the line declares, unless an earlier line declares the name.
 fn note(
     alloc: Global,
     table: &mut Names<Entry>,
@@ -73,6 +74,7 @@ pub fn declarations(alloc: Global, subject: &Module) -> Result<Names<Entry>, All
     Ok(table)
 }
 
+/// Adds the line, if it is the first that assigns a name.
 fn note_assign(
     alloc: Global,
     table: &mut Names<usize>,
@@ -111,6 +113,7 @@ pub enum Role {
     Memory,
 }
 
+/// Whether a name of this kind can have the role.
 fn plays(kind: Kind, role: Role) -> bool
     ensures { result ≡ role_passes role kind }
 {

@@ -52,6 +52,7 @@ fn count_join(
     }
 }
 
+/// Counts the nets that are joined to an output port.
 fn count_joins(
     alloc: Global,
     table: &mut Names<u8>,

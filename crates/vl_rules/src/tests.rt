@@ -1,3 +1,5 @@
+//! Worked texts: the first rule that each breaks, and the line.
+
 use super::*;
 use std::alloc::{AllocError, Global};
 use std::test::Fail;

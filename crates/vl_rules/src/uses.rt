@@ -25,6 +25,7 @@ pub enum UseTest<'a> {
 /// A width of 64 bits stands for all that are wider.
 const MOST: u64 = 64;
 
+/// The width, up to 64.
 fn capped(width: u64) -> u64
     ensures { result ≡ min 64 width }
 {
@@ -67,6 +68,7 @@ fn boxed_bits(e: &Boxed<Expr>, table: &Names<Entry>, number: usize) -> u64
     bits(e.get(), table, number)
 }
 
+/// The width of the parts in a row, up to 64.
 #[cycle(bits)]
 #[tactic(auto, using(crate::proofs::Capped::bits))]
 fn bits_in(es: &[Expr], table: &Names<Entry>, number: usize) -> u64
@@ -90,6 +92,7 @@ pub fn index_fits(table: &Names<Entry>, number: usize, memory: &[u8], index: &Ex
     width < MOST && 1 << width == words
 }
 
+/// Whether the memory and its index pass the test.
 fn passes(test: &UseTest, memory: &[u8], index: &Expr) -> bool
     ensures { result ≡ use_passes test.now (record { memory = memory.now; index = read index.now }) }
 {
@@ -122,6 +125,7 @@ fn boxed(e: &Boxed<Expr>, test: &UseTest) -> bool
     any_use(e.get(), test)
 }
 
+/// Whether one of the parts reads a memory that passes.
 #[cycle(uses)]
 #[tactic(auto, using(crate::proofs::Anys::anys))]
 fn any_in(es: &[Expr], test: &UseTest) -> bool

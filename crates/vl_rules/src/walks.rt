@@ -22,6 +22,7 @@ pub enum NetTest<'a> {
     Within(&'a Names<()>),
 }
 
+/// Whether the net passes the test.
 fn passes(test: &NetTest, name: &[u8]) -> bool
     ensures { result ≡ net_passes test.now name.now }
 {
@@ -58,6 +59,7 @@ fn boxed(e: &Boxed<Expr>, test: &NetTest) -> bool
     any_net(e.get(), test)
 }
 
+/// Whether one of the parts reads a net that passes.
 #[cycle(nets)]
 #[tactic(auto, using(crate::proofs::Anys::anys))]
 fn any_in(es: &[Expr], test: &NetTest) -> bool

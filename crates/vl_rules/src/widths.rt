@@ -13,12 +13,14 @@ use crate::uses::after;
 use sqlite_items::Boxed;
 use vl_tree::{Expr, Op};
 
+/// The width of an operator's result, where its operands are equally wide.
 fn two(op: Op, w: u64, u: u64) -> Option<u64>
     ensures { result ≡ (if w == u then Some (op_width op w) else None) }
 {
     if w == u { Some(after(op, w)) } else { None }
 }
 
+/// The width of a choice, where the test has one bit and both branches are equally wide.
 fn choice(test: u64, w: u64, u: u64) -> Option<u64>
     ensures { result ≡ (if (test == 1) && (w == u) then Some w else None) }
 {
@@ -75,6 +77,7 @@ fn boxed(e: &Boxed<Expr>, table: &Names<Entry>, number: usize) -> Option<u64>
     width(e.get(), table, number)
 }
 
+/// The width of a concatenation, at most 64.
 #[cycle(width)]
 #[tactic(auto, using(crate::proofs::Sized::cat_width))]
 fn parts(es: &[Expr], table: &Names<Entry>, number: usize) -> Option<u64>
@@ -83,6 +86,7 @@ fn parts(es: &[Expr], table: &Names<Entry>, number: usize) -> Option<u64>
     in_a_row(es, table, number)
 }
 
+/// The width of the parts in a row, at most 64.
 #[cycle(width)]
 #[tactic(auto, using(crate::proofs::Sized::rows))]
 fn in_a_row(es: &[Expr], table: &Names<Entry>, number: usize) -> Option<u64>

@@ -11,6 +11,7 @@ use sqlite_items::Boxed;
 use std::alloc::AllocError;
 use vl_tree::Expr;
 
+/// An expression.
 #[cycle(written)]
 pub fn expr(out: &mut Vec<u8>, e: &Expr) -> Result<(), AllocError>
     ensures { OnOk result (out.new.items ≡ out.old.items ++ expr_text (read e.now)) }

@@ -12,6 +12,7 @@ use crate::pieces::{constant, put, ranged, small};
 use std::alloc::{AllocError, Global};
 use vl_tree::{Const, Design, Expr, Join, Leaf, LeafItem, Port, Top, TopItem};
 
+/// An item of a leaf, on its own line.
 fn item(out: &mut Vec<u8>, it: &LeafItem) -> Result<(), AllocError>
     ensures { OnOk result (out.new.items ≡ out.old.items ++ item_text (read_item it.now)) }
 {
@@ -50,6 +51,7 @@ fn item(out: &mut Vec<u8>, it: &LeafItem) -> Result<(), AllocError>
     }
 }
 
+/// The move of a register, with its reset constant.
 fn clocked(out: &mut Vec<u8>, name: &[u8], reset: &Const, value: &Expr) -> Result<(), AllocError>
     ensures { OnOk result (out.new.items ≡ out.old.items
         ++ item_text (values.clocked name.now reset.now (read value.now))) }
@@ -65,6 +67,7 @@ fn clocked(out: &mut Vec<u8>, name: &[u8], reset: &Const, value: &Expr) -> Resul
     put(out, b";\n")
 }
 
+/// A store into a memory.
 fn store(
     out: &mut Vec<u8>,
     enable: &Expr,
@@ -95,6 +98,7 @@ fn items(out: &mut Vec<u8>, its: &[LeafItem]) -> Result<(), AllocError>
     Ok(())
 }
 
+/// The comma that ends the line before, and the direction that begins a port's line.
 fn way(out: &mut Vec<u8>, output: bool) -> Result<(), AllocError>
     ensures { OnOk result (out.new.items ≡ out.old.items ++ way_text output) }
 {
@@ -105,6 +109,7 @@ fn way(out: &mut Vec<u8>, output: bool) -> Result<(), AllocError>
     }
 }
 
+/// A port, on its own line.
 fn port(out: &mut Vec<u8>, p: &Port) -> Result<(), AllocError>
     ensures { OnOk result (out.new.items ≡ out.old.items ++ port_text p.now) }
 {
@@ -121,6 +126,7 @@ fn ports(out: &mut Vec<u8>, ps: &[Port]) -> Result<(), AllocError>
     Ok(())
 }
 
+/// What stands between a module's name and its items.
 fn head(out: &mut Vec<u8>, ps: &[Port]) -> Result<(), AllocError>
     ensures { OnOk result (out.new.items ≡ out.old.items ++ head_text ps.now) }
 {
@@ -148,6 +154,7 @@ fn leaves(out: &mut Vec<u8>, ls: &[Leaf]) -> Result<(), AllocError>
     Ok(())
 }
 
+/// A join, on its own line.
 fn join(out: &mut Vec<u8>, j: &Join) -> Result<(), AllocError>
     ensures { OnOk result (out.new.items ≡ out.old.items ++ join_text j.now) }
 {
@@ -167,6 +174,7 @@ fn joins(out: &mut Vec<u8>, js: &[Join]) -> Result<(), AllocError>
     Ok(())
 }
 
+/// A wire of the top on its own line, or an instance.
 fn top_item(out: &mut Vec<u8>, it: &TopItem) -> Result<(), AllocError>
     ensures { OnOk result (out.new.items ≡ out.old.items ++ top_item_text it.now) }
 {
@@ -184,6 +192,7 @@ fn top_item(out: &mut Vec<u8>, it: &TopItem) -> Result<(), AllocError>
     }
 }
 
+/// An instance with its joins.
 fn instance(out: &mut Vec<u8>, leaf: &[u8], name: &[u8], js: &[Join]) -> Result<(), AllocError>
     ensures { OnOk result (out.new.items ≡ out.old.items ++ top_item_text (Instance leaf.now name.now js.now)) }
 {
@@ -226,6 +235,7 @@ fn room(design: &Design) -> usize {
         .saturating_mul(64)
 }
 
+/// About how many lines the leaves take.
 fn leaf_lines(leaves: &[Leaf]) -> usize {
     let mut lines: usize = 0;
     for l in leaves {
@@ -237,6 +247,7 @@ fn leaf_lines(leaves: &[Leaf]) -> usize {
     lines
 }
 
+/// About how many lines the top's items take.
 fn top_lines(items: &[TopItem]) -> usize {
     let mut lines: usize = 0;
     for it in items {
@@ -249,8 +260,7 @@ fn top_lines(items: &[TopItem]) -> usize {
     lines
 }
 
-/// The text of a design: an item, a port and a join a line, two spaces in. The only error is that memory was
-/// refused.
+/// The text of a design: an item, a port and a join a line, two spaces in.
 ///
 /// # Errors
 ///

@@ -22,12 +22,14 @@ fn number(out: &mut Vec<u8>, v: u64) -> Result<(), AllocError>
     put(out, buffer.format(v).as_bytes())
 }
 
+/// A number of at most 32 bits in decimal.
 pub fn small(out: &mut Vec<u8>, v: u32) -> Result<(), AllocError>
     ensures { OnOk result (out.new.items ≡ out.old.items ++ decimal v) }
 {
     number(out, u64::from(v))
 }
 
+/// A constant: its width, and its value in decimal.
 pub fn constant(out: &mut Vec<u8>, k: &Const) -> Result<(), AllocError>
     ensures { OnOk result (out.new.items ≡ out.old.items ++ const_text k.now) }
 {
@@ -36,6 +38,7 @@ pub fn constant(out: &mut Vec<u8>, k: &Const) -> Result<(), AllocError>
     number(out, k.value)
 }
 
+/// An operator between spaces.
 pub fn op(out: &mut Vec<u8>, o: Op) -> Result<(), AllocError>
     ensures { OnOk result (out.new.items ≡ out.old.items ++ op_text o) }
 {

@@ -342,7 +342,7 @@ store_at = made (λ x. store x.0 x.1.0 x.1.1.0 x.1.1.1) (both (closed whole_expr
 unfoldable pub always_at : Reader Item
 always_at = opened (codes "always @ ( posedge clk ) if (") (either (is_mark (codes "rst")) clocked_at store_at)
 
--- an item of a leaf, told by its first word
+-- an item of a leaf, by its first word
 unfoldable pub item_at : Reader Item
 item_at =
     either (is_mark (codes "wire")) (made (λ x. wire x.0 x.1) wire_at)

@@ -42,6 +42,7 @@ fn is_name_rest(rest: &[u8]) -> bool
     runs && rest.len() < 64 && underscore && digit
 }
 
+/// Whether each byte is a letter, a digit or an underscore.
 fn all_run(bytes: &[u8]) -> bool
     ensures { result ≡ list_all tokens.is_run bytes.now }
 {

@@ -180,7 +180,7 @@ pub fn ring_of_four(alloc: Global) -> Result<Plan, AllocError>
     plan_in(alloc, &shape)
 }
 
-/// Five tiles in a row, with links of four stages. Both ends host the domains `a`, `b` and `c`.
+/// Five tiles in a row, with links of four registers. Both ends host the domains `a`, `b` and `c`.
 ///
 /// # Errors
 ///
