@@ -21,3 +21,5 @@ pub mod Inputs
 pub mod Whole
 pub mod WordPut
 pub mod FirstPut
+pub mod Needed
+pub mod Refreshed

@@ -1,10 +1,10 @@
 -- A whole machine: at reset, over an edge, and what its outputs show.
-use Rattle.std.proofs.Common.{◌≡◌, ◌≢◌, ℕ, zero, suc, ◌+◌, ◌<◌, ◌≤◌, ◌^◌, Bool, true, false, List, [], ◌∷◌, ◌++◌, length, map, refl, sym, ◌∙◌, ap, subst, bytes_eq, arith}
+use Rattle.std.proofs.Common.{◌≡◌, ℕ, zero, suc, ◌+◌, ◌<◌, ◌≤◌, ◌^◌, Bool, true, false, List, [], ◌∷◌, length, map, refl, sym, ◌∙◌, ap, subst, arith}
 use Rattle.std.specs.Prelude.{Option, Some, None, find, if◌then◌else◌, slice_get, slice_index, codes}
 use Rattle.std.specs.List.{AllByRecursion}
 use Rattle.std.proofs.lemmas.Nat.{pow_pos}
 use Rattle.std.proofs.lemmas.Option.{none-some}
-use Rattle.std.proofs.lemmas.Bool.{both_ways, false≢true}
+use Rattle.std.proofs.lemmas.Bool.{both_ways}
 use Rattle.vl_tree.specs.declared.tree.Port.{Port}
 use Rattle.vl_tree.specs.declared.tree.Join.{Join}
 use Rattle.vl_tree.specs.declared.tree.TopItem.{TopItem}
@@ -13,16 +13,16 @@ use Rattle.vl_tree.specs.Values.{Name, Leaf, Design}
 use Rattle.vl_model.specs.Meaning.{Widths, Values}
 use Rattle.vl_model.specs.declared.kind.Kind.{Kind}
 use Rattle.vl_model.specs.declared.kind.Kind.TheVariants.{Input, Output, Inner, Register, Memory, Child}
-use Rattle.vl_model.specs.Lines.{Line, heading, port, joint, leaf_lines, top_lines, leaf_named, lookup, Declared, way_of, kind_passes, is_net, is_input, is_driven, widths, net_bits}
+use Rattle.vl_model.specs.Lines.{Line, heading, joint, top_lines, leaf_named, lookup, Declared, way_of, kind_passes, is_net, is_input, widths, net_bits}
 use Rattle.vl_model.specs.Rules.{is_kind, IsSound, wants_driver, drivers, join_drives}
 use Rattle.vl_model.specs.Leaf.{leaf_widths, AreSmall, IsRightIn}
 use Rattle.vl_model.specs.Whole.{Nets, Of, IsRight, AreSmallNets}
 use Rattle.vl_model.specs.Settle.{settle, settled, settled_in, fed, port_value, instance_value, net_value, top_value, inside_settled, inside_stepped, inside_reset, instance_reset, instance_stepped, stepped, with_inputs}
 use Rattle.vl_model.proofs.Passed.{top-sound, all-map}
 use Rattle.vl_model.proofs.Settling.{settle-word}
-use Rattle.vl_model.proofs.Ordered.{kind-of, driven-once}
+use Rattle.vl_model.proofs.Ordered.{kind-of}
 use Rattle.vl_model.proofs.Leaves.{settled-keeps}
-use Rattle.vl_model.proofs.Tops.{Each, each-map, each-both, each-leaf, GoodJoin, GoodInstance, net-has, net-one}
+use Rattle.vl_model.proofs.Tops.{Each, each-both, each-leaf, GoodJoin, GoodInstance, net-has, net-one}
 use Rattle.vl_model.proofs.One.{good, known, found-here, at-name, one-driver, one-valuation}
 use Rattle.vl_run.specs.Program.{linked}
 use Rattle.vl_run.specs.State.{Code, Part, part_settled, part_edged, shown_by}
@@ -71,7 +71,7 @@ module _ (t : Name → ℕ) (ls : List Leaf) where
       go None e s = s
       go (Some y) e s = subst (StandsIn t y js x) (sym e.1) (begun t y js e.0 s.place s.places x s.code s.start)
 
-  length-shown : (xs : List Part) (tops : List ℕ) → length (shown_by xs tops) ≡ length tops
+  pub length-shown : (xs : List Part) (tops : List ℕ) → length (shown_by xs tops) ≡ length tops
   length-shown [] tops = refl
   length-shown (x ∷ xs) tops = length-linked x.kept.nets x.code.outs (shown_by xs tops) ∙ length-shown xs tops
 
@@ -106,7 +106,7 @@ module _ (d : Design) (sound : IsSound d) where
   abbrev all : List Line
   all = top_lines d.top
 
-  facts : Each d.leaves (λ l n js. LeafFacts l) d.top.items
+  pub facts : Each d.leaves (λ l n js. LeafFacts l) d.top.items
   facts = each-leaf d.leaves LeafFacts d.top.items (known d sound) (λ n l e. leaf-facts d sound n l e)
 
   facts-and-joins : Each d.leaves (λ l n js. LeafFacts l × GoodInstance all l n js) d.top.items
@@ -132,6 +132,11 @@ module _ (d : Design) (sound : IsSound d) where
   same-value a n one y z =
       sym (net-has d.leaves a (λ x. net_value d.leaves a d.top.items n z ≡ x) n y d.top.items (λ none. absurd (omega arith)) (net-one d.leaves a n z d.top.items (known d sound) one))
 
+  -- the top's nets have the numbers that follow from the state
+  pub tops-show : (t : Name → ℕ) → ArePlaces all t → (a : Name → Values) (xs : List Part) → AllStand t d.leaves a d.top.items xs → (tops : List ℕ) → length all ≤ length tops
+      → (n : Name) → is_kind is_net all n ≡ true → is_kind is_input all n ≡ false → (y : ℕ) → slice_index (shown_by (map part_settled xs) tops) (t n) ≡ net_value d.leaves a d.top.items n y
+  tops-show t places a xs h tops room n k unfed y = shows t d.leaves all places a d.top.items facts-and-joins xs h tops room n k ∙ same-value a n (driven n k unfed) (slice_index tops (t n)) y
+
   -- settled instances and what they show stand as a whole
   pub shown : (t : Name → ℕ) → ArePlaces all t → (a : Name → Values) (xs : List Part) → AllStand t d.leaves a d.top.items xs → (tops ports : List ℕ) → length all ≤ length tops → ports ≡ places_of t d.top.ports
       → Stands (record { design = d; parts = map part_settled xs; tops = shown_by (map part_settled xs) tops; ports = ports }) a
@@ -141,16 +146,20 @@ module _ (d : Design) (sound : IsSound d) where
     parts = all-mapped t d.leaves (λ l n js. LeafFacts l) a a part_settled (λ l n js x f s. settled-stands t l js f x (a n) s) d.top.items facts xs h;
     room = subst (λ z. length all ≤ z) (sym (length-shown t d.leaves (map part_settled xs) tops)) room;
     ports = named;
-    tops = λ n k unfed y. shows t d.leaves all places a d.top.items facts-and-joins xs h tops room n k ∙ same-value a n (driven n k unfed) (slice_index tops (t n)) y;
+    tops = tops-show t places a xs h tops room;
   }
 
-  pub reset-stands : (parts : List Part) (tops ports : List ℕ) → IsBegun d parts tops ports
-      → Stands (record { design = d; parts = map part_settled parts; tops = shown_by (map part_settled parts) tops; ports = ports }) (inside_reset d.leaves d.top.items (λ i m k. 0))
-  reset-stands parts tops ports b =
+  -- what a machine begins with stands at reset
+  pub reset-parts : (parts : List Part) (tops ports : List ℕ) (b : IsBegun d parts tops ports) → AllStand b.top d.leaves (inside_reset d.leaves d.top.items (λ i m k. 0)) d.top.items parts
+  reset-parts parts tops ports b =
       let a : Name → Values = inside_reset d.leaves d.top.items (λ i m k. 0) in
       let at = found-here d sound (λ l n joins. instance_reset l (λ m k. 0)) (λ n. record { net = λ m. 0; word = λ m i. 0 }) in
       let each = each-both d.leaves (λ l n js. LeafFacts l) (λ l n js. a n ≡ instance_reset (Some l) (λ m k. 0)) (λ l n js. LeafFacts l × (a n ≡ instance_reset (Some l) (λ m k. 0))) (λ l n js f g. (f, g)) d.top.items facts at in
-      shown b.top b.places a parts (all-begun b.top d.leaves a d.top.items each parts b.fresh) tops ports b.room b.named
+      all-begun b.top d.leaves a d.top.items each parts b.fresh
+
+  pub reset-stands : (parts : List Part) (tops ports : List ℕ) → IsBegun d parts tops ports
+      → Stands (record { design = d; parts = map part_settled parts; tops = shown_by (map part_settled parts) tops; ports = ports }) (inside_reset d.leaves d.top.items (λ i m k. 0))
+  reset-stands parts tops ports b = shown b.top b.places (inside_reset d.leaves d.top.items (λ i m k. 0)) parts (reset-parts parts tops ports b) tops ports b.room b.named
 
   -- the ports of the top, each the first of its name
   pub ports-first : First all d.top.ports × Distinct d.top.ports

@@ -17,13 +17,12 @@ use Rattle.vl_model.proofs.Settling.{itself, one-name}
 use Rattle.vl_model.proofs.Ordered.{lookup-front}
 use Rattle.vl_run.specs.Places.{ArePlaces}
 use Rattle.vl_run.specs.Rows.{Rows}
-use Rattle.vl_run.specs.State.{Part, part_settled, shown_by}
+use Rattle.vl_run.specs.State.{Part}
 use Rattle.vl_run.specs.Stands.{StandsIn, StandsAt, AllStand, Stands}
 use Rattle.vl_run.specs.Put as put
 use Rattle.vl_run.specs.Put.{instances, memories_of, with_word, with_word_in, memory_place, memory_line, part_with, parts_with}
 use Rattle.vl_run.proofs.Stored.{written, write-row}
 use Rattle.vl_run.proofs.Inputs.{no-lookup, lookup-behind}
-use Rattle.vl_run.proofs.Whole.{shown}
 
 -- ---- each name is declared at one line
 
@@ -211,21 +210,14 @@ length-with c row i x [] = refl
 length-with zero row i x (p ∷ ps) = refl
 length-with (suc c) row i x (p ∷ ps) = ap suc (length-with c row i x ps)
 
--- a machine with another word stands at the state with it
-pub put-whole : (d : Design) (sound : IsSound d) (inside : Name → Values) (parts : List Part) (tops ports : List ℕ) → Stands (record { design = d; parts = parts; tops = tops; ports = ports }) inside
+-- the instances of a machine with another word stand at the state with it
+pub put-parts : (d : Design) (sound : IsSound d) (inside : Name → Values) (parts : List Part) (tops ports : List ℕ) (st : Stands (record { design = d; parts = parts; tops = tops; ports = ports }) inside)
     → (c : ℕ) (u : Name × Name) → slice_get (instances d.top.items) c ≡ Some u → (l : Leaf) → leaf_named d.leaves u.0 ≡ Some l → (k : ℕ) (m : put.Memory) → slice_get (memories_of l.items) k ≡ Some m
     → (i x : ℕ) → i ≤ m.last → x < 2 ^ (m.high + 1)
-    → Stands (record {
-      design = d;
-      parts = map part_settled (parts_with c (memory_line l k) i x parts);
-      tops = shown_by (map part_settled (parts_with c (memory_line l k) i x parts)) tops;
-      ports = ports;
-    }) (with_word_in inside u.1 m.name i x)
-put-whole d sound inside parts tops ports st c u is-instance l named k m is-memory i x within fits =
-    shown d sound st.top st.places (with_word_in inside u.1 m.name i x) (parts_with c (memory_line l k) i x parts)
-    (put-all st.top d.leaves (top_lines d.top) inside u m.name (memory_line l k) i x l named
+    → AllStand st.top d.leaves (with_word_in inside u.1 m.name i x) d.top.items (parts_with c (memory_line l k) i x parts)
+put-parts d sound inside parts tops ports st c u is-instance l named k m is-memory i x within fits =
+    put-all st.top d.leaves (top_lines d.top) inside u m.name (memory_line l k) i x l named
     (λ js p was. put-stands st.top l (leaf-sound d sound.rules u.0 l named) k m is-memory i x within fits js p (inside u.1) was)
     (heading (codes "noc") ∷ map port d.top.ports) d.top.items
     (passes-behind name_twice d.leaves (top_lines d.top) [] (heading (codes "noc") ∷ map port d.top.ports) (map joint d.top.items) (top-sound d sound.rules).once)
-    c is-instance parts st.parts)
-    tops ports st.room st.ports
+    c is-instance parts st.parts

@@ -19,6 +19,7 @@ pub record IsFresh (t : Name → ℕ) (l : Leaf) (joins : List Join) (x : Part) 
   pub code : x.code ≡ code_of place (leaf_widths l) t l joins
   pub start : IsStart place l x.code x.kept
 
+-- the same, and there is such a leaf
 abbrev pub FreshAt : (Name → ℕ) → Option Leaf → List Join → Part → Type 0
 FreshAt t None joins x = ⊥
 FreshAt t (Some l) joins x = IsFresh t l joins x

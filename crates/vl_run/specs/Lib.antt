@@ -10,3 +10,4 @@ pub mod Stands
 pub mod Fresh
 pub mod Running
 pub mod Put
+pub mod Shown

@@ -7,4 +7,5 @@ use Rattle.vl_model.specs.Lines.{Line, Declared, declared, lookup}
 pub record ArePlaces (lines : List Line) (s : Name → ℕ) : Type 0 where
   pub below : (n : Name) (x : Declared) → lookup lines n ≡ Some x → s n < length lines
   pub apart : (n m : Name) (x y : Declared) → lookup lines n ≡ Some x → lookup lines m ≡ Some y → s n ≡ s m → n ≡ m
-  pub line : (n : Name) (x : Declared) → lookup lines n ≡ Some x → (y : Line) × (slice_get lines (s n) ≡ Some y) × (declared y ≡ Some x)
+  pub line : (n : Name) (x : Declared) → lookup lines n ≡ Some x
+      → (y : Line) × (slice_get lines (s n) ≡ Some y) × (declared y ≡ Some x)

@@ -57,12 +57,16 @@ memory_place (store c n i e ∷ is) k = suc (memory_place is k)
 abbrev pub memory_line : Leaf → ℕ → ℕ
 memory_line l k = suc (length l.ports + memory_place l.items k)
 
+-- what an instance keeps, with x as word i of the memory at line `row`
 abbrev pub kept_with : ℕ → ℕ → ℕ → Kept → Kept
-kept_with row i x k = record { nets = k.nets; memories = slice_set k.memories row (slice_set (slice_index_or k.memories row []) i x) }
+kept_with row i x k =
+    record { nets = k.nets; memories = slice_set k.memories row (slice_set (slice_index_or k.memories row []) i x) }
 
+-- the instance, its code as it was
 abbrev pub part_with : ℕ → ℕ → ℕ → Part → Part
 part_with row i x p = record { code = p.code; kept = kept_with row i x p.kept }
 
+-- the instances in order, the one of number c changed so
 abbrev pub parts_with : ℕ → ℕ → ℕ → ℕ → List Part → List Part
 parts_with c row i x [] = []
 parts_with zero row i x (p ∷ ps) = part_with row i x p ∷ ps

@@ -9,5 +9,7 @@ use Rattle.vl_run.specs.Step.{word_at}
 -- each memory has a row of its length, with its words
 pub record Rows (all : List Line) (s : Name → ℕ) (ms : List (List ℕ)) (u : Values) : Type 0 where
   pub there : (n : Name) → is_kind is_memory all n ≡ true → s n < length ms
-  pub long : (n : Name) → is_kind is_memory all n ≡ true → length (slice_index_or ms (s n) []) ≡ word_count (lookup all n)
-  pub word : (n : Name) (i : ℕ) → is_kind is_memory all n ≡ true → i < word_count (lookup all n) → word_at ms (s n) i ≡ u.word n i
+  pub long : (n : Name) → is_kind is_memory all n ≡ true
+      → length (slice_index_or ms (s n) []) ≡ word_count (lookup all n)
+  pub word : (n : Name) (i : ℕ) → is_kind is_memory all n ≡ true → i < word_count (lookup all n)
+      → word_at ms (s n) i ≡ u.word n i

@@ -30,9 +30,11 @@ pub record StandsIn (t : Name → ℕ) (l : Leaf) (joins : List Join) (x : Part)
   pub code : x.code ≡ code_of place (leaf_widths l) t l joins
   pub room : HasRoom l x.code x.kept.nets
   pub small : AreSmall (leaf_widths l) v
-  pub nets : (n : Name) → is_kind is_net (leaf_lines l) n ≡ true → is_kind is_driven (leaf_lines l) n ≡ false → slice_index x.kept.nets (place n) ≡ v.net n
+  pub nets : (n : Name) → is_kind is_net (leaf_lines l) n ≡ true → is_kind is_driven (leaf_lines l) n ≡ false
+      → slice_index x.kept.nets (place n) ≡ v.net n
   pub rows : Rows (leaf_lines l) place x.kept.memories v
 
+-- the same, and there is such a leaf
 abbrev pub StandsAt : (Name → ℕ) → Option Leaf → List Join → Part → Values → Type 0
 StandsAt t None joins x v = ⊥
 StandsAt t (Some l) joins x v = StandsIn t l joins x v
@@ -42,18 +44,22 @@ abbrev pub AllStand : (Name → ℕ) → List Leaf → (Name → Values) → Lis
 AllStand t leaves inside [] xs = xs ≡ []
 AllStand t leaves inside (Wire h n ∷ is) xs = AllStand t leaves inside is xs
 AllStand t leaves inside (Instance l n joins ∷ is) [] = ⊥
-AllStand t leaves inside (Instance l n joins ∷ is) (x ∷ xs) = StandsAt t (leaf_named leaves l) joins x (inside n) × AllStand t leaves inside is xs
+AllStand t leaves inside (Instance l n joins ∷ is) (x ∷ xs) = StandsAt t (leaf_named leaves l) joins x (inside n)
+    × AllStand t leaves inside is xs
 
--- a machine that stands at a state, by instance: all registers and memories have its numbers, and the top's nets but its input
--- ports those that follow from it
+-- a machine that stands at a state, by instance: all registers and memories have its numbers, and the top's nets but
+-- its input ports those that follow from it
 pub record Stands (m : Running) (inside : Name → Values) : Type 0 where
   pub top : Name → ℕ
   pub places : ArePlaces (top_lines m.design.top) top
   pub parts : AllStand top m.design.leaves inside m.design.top.items m.parts
   pub room : length (top_lines m.design.top) ≤ length m.tops
   pub ports : m.ports ≡ places_of top m.design.top.ports
-  pub tops : (n : Name) → is_kind is_net (top_lines m.design.top) n ≡ true → is_kind is_input (top_lines m.design.top) n ≡ false → (y : ℕ) → slice_index m.tops (top n) ≡ net_value m.design.leaves inside m.design.top.items n y
+  pub tops : (n : Name) → is_kind is_net (top_lines m.design.top) n ≡ true
+      → is_kind is_input (top_lines m.design.top) n ≡ false → (y : ℕ)
+      → slice_index m.tops (top n) ≡ net_value m.design.leaves inside m.design.top.items n y
 
+-- an input port takes the first number, which its width can hold, and leaves the others; an output port takes none
 abbrev pub FitsPort : Bool → Port → List ℕ → (List ℕ → Type 0) → Type 0
 FitsPort true p xs rest = rest xs
 FitsPort false p xs rest = (slice_index xs 0 < 2 ^ (p.high + 1)) × rest (drop 1 xs)

@@ -24,6 +24,7 @@ words_of (item (clocked n k e)) = 0
 words_of (item (store c n i e)) = 0
 words_of (joint x) = 0
 
+-- as many words of 0 as the line declares
 abbrev pub empty_memory : Line → List ℕ
 empty_memory x = replicate (words_of x) 0
 

@@ -39,6 +39,7 @@ pub(crate) fn next(place: usize) -> Result<usize, AllocError>
     }
 }
 
+/// How many bits the expression has, up to 64.
 fn wide(e: &Expr, scope: &Scope) -> u64
     ensures width { result ≡ min 64 (width_of (widths_at scope.now.declared.now scope.now.lines) (read e.now)) }
     ensures most { result ≤ 64 }
@@ -79,6 +80,7 @@ fn part_of(from: usize, low: u32, mask: u64) -> Action
     Action::Bits { from, low, mask }
 }
 
+/// An operator between two operands that stand at places.
 fn two_of(op: Op, mask: u64, left: usize, right: usize) -> Action
     ensures { result ≡ Action.Two op mask left right }
 {
@@ -90,6 +92,7 @@ fn two_of(op: Op, mask: u64, left: usize, right: usize) -> Action
     }
 }
 
+/// The first where the test is 1, and else the second, by their places.
 fn choice_of(test: usize, first: usize, second: usize) -> Action
     ensures { result ≡ Action.Choose test first second }
 {
@@ -110,7 +113,9 @@ pub(crate) fn emit(
     scope: &Scope,
     steps: &mut Vec<Step>,
 ) -> Result<(), AllocError>
-    ensures { OnOk result (steps.new.items ≡ steps.old.items ++ steps_of (place_in scope.now.declared.now) (widths_at scope.now.declared.now scope.now.lines) to free (read e.now)) }
+    ensures { OnOk result (steps.new.items ≡ steps.old.items
+        ++ steps_of (place_in scope.now.declared.now) (widths_at scope.now.declared.now scope.now.lines) to free
+        (read e.now)) }
 {
     match e {
         Expr::Net(n) => put(steps, to, Action::Copy(place(scope, n.as_slice()))),
@@ -163,16 +168,21 @@ fn operand(
     steps: &mut Vec<Step>,
 ) -> Result<usize, AllocError>
     ensures place { IfOk result (λ p. p ≡ fetched (place_in scope.now.declared.now) free (read e.now)) }
-    ensures steps { OnOk result (steps.new.items ≡ steps.old.items ++ fetch (read e.now) (steps_of (place_in scope.now.declared.now) (widths_at scope.now.declared.now scope.now.lines) free (free + 1) (read e.now))) }
+    ensures steps { OnOk result (steps.new.items ≡ steps.old.items
+        ++ fetch (read e.now) (steps_of (place_in scope.now.declared.now)
+        (widths_at scope.now.declared.now scope.now.lines) free (free + 1) (read e.now))) }
 {
     fetched(e.get(), free, scope, steps)
 }
 
+/// The place of a net, or the place `free` after the steps that compute anything else there.
 #[cycle(emit)]
 #[tactic(auto, using(crate::proofs::Emitting::emitting))]
 fn fetched(e: &Expr, free: usize, scope: &Scope, steps: &mut Vec<Step>) -> Result<usize, AllocError>
     ensures place { IfOk result (λ p. p ≡ fetched (place_in scope.now.declared.now) free (read e.now)) }
-    ensures steps { OnOk result (steps.new.items ≡ steps.old.items ++ fetch (read e.now) (steps_of (place_in scope.now.declared.now) (widths_at scope.now.declared.now scope.now.lines) free (free + 1) (read e.now))) }
+    ensures steps { OnOk result (steps.new.items ≡ steps.old.items
+        ++ fetch (read e.now) (steps_of (place_in scope.now.declared.now)
+        (widths_at scope.now.declared.now scope.now.lines) free (free + 1) (read e.now))) }
 {
     match e {
         Expr::Net(n) => Ok(place(scope, n.as_slice())),
@@ -188,7 +198,9 @@ fn fetched(e: &Expr, free: usize, scope: &Scope, steps: &mut Vec<Step>) -> Resul
 #[cycle(emit)]
 #[tactic(auto, using(crate::proofs::Emitting::emitting))]
 fn in_a_row(es: &[Expr], all: usize, scope: &Scope, steps: &mut Vec<Step>) -> Result<(), AllocError>
-    ensures { OnOk result (steps.new.items ≡ steps.old.items ++ parts_steps (place_in scope.now.declared.now) (widths_at scope.now.declared.now scope.now.lines) all (reads es.now)) }
+    ensures { OnOk result (steps.new.items ≡ steps.old.items
+        ++ parts_steps (place_in scope.now.declared.now) (widths_at scope.now.declared.now scope.now.lines) all
+        (reads es.now)) }
 {
     let more = next(all)?;
     for e in es {

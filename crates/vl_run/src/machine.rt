@@ -10,7 +10,8 @@ ghost use Rattle.vl_model.specs.Rules.{IsSound};
 ghost use Rattle.vl_model.specs.Settle.{settled, with_inputs, inside_reset, inside_stepped};
 ghost use Rattle.vl_rules.specs.Answer.{design_of};
 ghost use Rattle.vl_run.specs.Emit.{place_in};
-ghost use Rattle.vl_run.specs.State.{part_settled, shown_by};
+ghost use Rattle.vl_run.specs.State.{shown_by};
+ghost use Rattle.vl_run.specs.Shown.{AllRefreshed};
 ghost use Rattle.vl_run.specs.Top.{inputs_of, with_ports, places_of};
 ghost use Rattle.vl_run.specs.Fresh.{IsBegun};
 ghost use Rattle.vl_run.specs.Stands.{Stands, AreInputs};
@@ -19,7 +20,9 @@ ghost use Rattle.vl_run.specs.Running.{running};
 
 use crate::cells::Cells;
 use crate::emit::{Scope, place};
-use crate::parts::{Part, edge_all, fresh_parts, put_word, settle_all, show_all};
+use crate::parts::{
+    Instance, Part, edge_all, fresh_parts, instances_of, put_word, refresh_all, show_all,
+};
 use crate::put::memory_line;
 use std::alloc::{AllocError, Global};
 use vl_rules::{Library, Module, Sound, declarations};
@@ -29,15 +32,15 @@ use vl_tree::{Design, Port};
 #[derive(Drop)]
 pub struct Machine {
     sound: Sound,
-    parts: Vec<Part>,
+    parts: Vec<Instance>,
     /// The numbers of the top's nets, at the lines that declare them.
     tops: Cells,
     /// The lines of the top's ports.
     ports: Vec<usize>,
 }
 
-/// What a machine begins with: the instances at reset in the order of the items, the top's nets, which are all 0, and where its
-/// ports stand.
+/// What a machine begins with: the instances at reset in the order of the items, the top's nets, which are all 0, and
+/// where its ports stand.
 #[derive(Drop)]
 pub struct Instances {
     pub parts: Vec<Part>,
@@ -87,6 +90,7 @@ fn number(numbers: &[u64], place: usize) -> u64
     }
 }
 
+/// Where a port stands, or 0 behind the last.
 fn place_at(places: &[usize], port: usize) -> usize
     ensures { result ≡ slice_index places.now port }
 {
@@ -117,12 +121,13 @@ impl Machine {
     /// Memory ran out; then the design is dropped.
     pub fn new(alloc: Global, sound: Sound) -> Result<Machine, AllocError>
         ensures design { IfOk result (λ m. (running m).design ≡ read_design (design_of sound)) }
-        ensures reset { IfOk result (λ m. Stands (running m) (inside_reset (running m).design.leaves (running m).design.top.items (λ i n k. 0))) }
+        ensures reset { IfOk result (λ m. Stands (running m)
+            (inside_reset (running m).design.leaves (running m).design.top.items (λ i n k. 0))) }
     {
         let begun = begin(alloc, sound.design())?;
         let mut machine = Machine {
             sound,
-            parts: begun.parts,
+            parts: instances_of(alloc, begun.parts)?,
             tops: begun.tops,
             ports: begun.ports,
         };
@@ -139,27 +144,30 @@ impl Machine {
 
     /// Computes what the output ports of the instances and of the top have.
     fn refresh(&mut self)
-        ensures { running self.new ≡ record (running self.old) {
-          parts = map part_settled (running self.old).parts;
-          tops = shown_by (map part_settled (running self.old).parts) (running self.old).tops;
-        } }
+        ensures design { (running self.new).design ≡ (running self.old).design }
+        ensures ports { (running self.new).ports ≡ (running self.old).ports }
+        ensures parts { AllRefreshed (running self.old).parts (running self.new).parts }
+        ensures tops { (running self.new).tops ≡ shown_by (running self.new).parts (running self.old).tops }
     {
-        settle_all(self.parts.as_mut_slice());
+        refresh_all(self.parts.as_mut_slice());
         show_all(self.parts.as_slice(), &mut self.tops);
     }
 
-    /// Makes `value` the word `index` of memory `mem` of instance `instance`. Instances are numbered among the top's, and
-    /// memories among those of the instance's leaf, from 0. Nothing is known of the machine afterwards unless there are
-    /// such ones, and the value is below two to the width of the memory's words.
+    /// Makes `value` the word `index` of memory `mem` of instance `instance`. Instances are numbered among the top's,
+    /// and memories among those of the instance's leaf, from 0. Nothing is known of the machine afterwards unless there
+    /// are such ones, and the value is below two to the width of the memory's words.
     pub fn put_mem(&mut self, instance: u32, mem: u32, index: u32, value: u64)
         ensures design { (running self.new).design ≡ (running self.old).design }
-        ensures puts { let d = (running self.old).design in (inside : Name → Values) (u : Name × Name) (l : Leaf) (m : Memory)
+        ensures puts { let d = (running self.old).design in (inside : Name → Values) (u : Name × Name)
+            (l : Leaf) (m : Memory)
             → Stands (running self.old) inside → slice_get (instances d.top.items) instance ≡ Some u
             → leaf_named d.leaves u.0 ≡ Some l → slice_get (memories_of l.items) mem ≡ Some m → index ≤ m.last
             → value < 2 ^ (m.high + 1) → Stands (running self.new) (with_word_in inside u.1 m.name index value) }
         // At reset the word becomes one of the memories' first content.
-        ensures first { let d = (running self.old).design in (first : Name → Name → ℕ → ℕ) (u : Name × Name) (l : Leaf) (m : Memory)
-            → Stands (running self.old) (inside_reset d.leaves d.top.items first) → slice_get (instances d.top.items) instance ≡ Some u
+        ensures first { let d = (running self.old).design in (first : Name → Name → ℕ → ℕ) (u : Name × Name)
+            (l : Leaf) (m : Memory)
+            → Stands (running self.old) (inside_reset d.leaves d.top.items first)
+            → slice_get (instances d.top.items) instance ≡ Some u
             → leaf_named d.leaves u.0 ≡ Some l → slice_get (memories_of l.items) mem ≡ Some m → index ≤ m.last
             → value < 2 ^ (m.high + 1)
             → Stands (running self.new) (inside_reset d.leaves d.top.items (with_first first u.1 m.name index value)) }
@@ -175,24 +183,29 @@ impl Machine {
         self.refresh();
     }
 
-    /// The number that an output port of the top has in this cycle. Ports are numbered in the order of the list, from 0.
+    /// The number that an output port of the top has in this cycle. Ports are numbered in the order of the list, from
+    /// 0.
     pub fn outputs(&self, port: u32) -> u64
-        ensures value { let d = (running self.now).design in (inside : Name → Values) (inputs : Name → ℕ) (p : Port) → Stands (running self.now) inside
-            → slice_get d.top.ports port ≡ Some p → p.output ≡ true → result ≡ (settled d (with_inputs d inputs inside)).top p.name }
-        ensures small { let d = (running self.now).design in (inside : Name → Values) (p : Port) → Stands (running self.now) inside
+        ensures value { let d = (running self.now).design in (inside : Name → Values) (inputs : Name → ℕ) (p : Port)
+            → Stands (running self.now) inside
+            → slice_get d.top.ports port ≡ Some p → p.output ≡ true
+            → result ≡ (settled d (with_inputs d inputs inside)).top p.name }
+        ensures small { let d = (running self.now).design in (inside : Name → Values) (p : Port)
+            → Stands (running self.now) inside
             → slice_get d.top.ports port ≡ Some p → p.output ≡ true → result < 2 ^ (p.high + 1) }
     {
         self.tops
             .read(place_at(self.ports.as_slice(), port as usize))
     }
 
-    /// One clock edge, where the top's input ports have these numbers, in the order of the list. Nothing is known of the
-    /// machine afterwards unless each is below two to its port's width.
+    /// One clock edge, where the top's input ports have these numbers, in the order of the list. Nothing is known of
+    /// the machine afterwards unless each is below two to its port's width.
     pub fn edge(&mut self, inputs: &[u64])
         ensures design { (running self.new).design ≡ (running self.old).design }
         ensures steps { let d = (running self.old).design in (inside : Name → Values) → AreInputs d.top.ports inputs.now
             → Stands (running self.old) inside → Stands (running self.new)
-            (inside_stepped d.leaves d.top.items (settled d (with_inputs d (inputs_of d.top.ports inputs.now) inside)).inside) }
+            (inside_stepped d.leaves d.top.items
+            (settled d (with_inputs d (inputs_of d.top.ports inputs.now) inside)).inside) }
     {
         let ports = self.sound.design().top.ports.as_slice();
         put_inputs(ports, self.ports.as_slice(), inputs, &mut self.tops);

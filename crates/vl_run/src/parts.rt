@@ -9,14 +9,17 @@ ghost use Rattle.vl_rules.specs.Scope.{Declares};
 ghost use Rattle.vl_rules.specs.Library.{IsLibrary};
 ghost use Rattle.vl_run.specs.Emit.{place_in};
 ghost use Rattle.vl_run.specs.Program.{linked};
-ghost use Rattle.vl_run.specs.State.{part_settled, part_edged, shown_by};
+ghost use Rattle.vl_run.specs.State.{part_edged, shown_by};
+ghost use Rattle.vl_run.specs.Shown.{part_after, Shows, IsRefreshed, AllRefreshed};
 ghost use Rattle.vl_run.specs.Put.{part_with, parts_with};
 ghost use Rattle.vl_run.specs.Fresh.{IsFresh, AllFresh, HasLeaf};
 
 use crate::cells::Cells;
 use crate::emit::Scope;
 use crate::program::Program;
+use crate::shown::shown_steps;
 use crate::state::{State, copy};
+use crate::step::Step;
 use std::alloc::{AllocError, Global};
 use std::marker::Model;
 use vl_rules::{Known, Library};
@@ -38,24 +41,37 @@ impl Model for Part {
 }
 
 impl Part {
-    fn settle(&mut self)
-        ensures { self.new ≡ part_settled self.old }
+    /// Takes the steps in order.
+    fn take(&mut self, steps: &[Step])
+        ensures { self.new ≡ part_after steps.now self.old }
     {
-        self.state.settle(&self.program);
+        self.state.take(steps);
     }
 
+    /// The steps of its assigns that its output ports depend on.
+    fn shown(&self, alloc: Global) -> Result<Vec<Step>, AllocError>
+        ensures { IfOk result (λ v. Shows self.now.code v.items) }
+    {
+        let places = self.state.nets.len();
+        let steps = shown_steps(alloc, &self.program, places)?;
+        Ok(steps)
+    }
+
+    /// One clock edge, where the top's nets have these numbers.
     fn edge(&mut self, tops: &Cells)
         ensures { self.new ≡ part_edged tops.now self.old }
     {
         self.state.edge(&self.program, tops);
     }
 
+    /// Makes this the number at a word of the memory in a row.
     fn put(&mut self, row: usize, index: usize, value: u64)
         ensures { self.new ≡ part_with row index value self.old }
     {
         self.state.put(row, index, value);
     }
 
+    /// Gives the top's nets the numbers of the instance's output ports.
     fn show(&self, tops: &mut Cells)
         ensures { tops.new ≡ linked self.now.kept.nets self.now.code.outs tops.old }
     {
@@ -63,8 +79,81 @@ impl Part {
     }
 }
 
+/// An instance that runs, with the steps of its assigns that its output ports depend on.
+#[derive(Drop)]
+pub(crate) struct Instance {
+    part: Part,
+    shows: Vec<Step>,
+}
+
+impl Model for Instance {
+    ghost use Rattle.vl_run.specs.State.{Part};
+    ghost use Rattle.vl_run.specs.Shown.{Shows};
+
+    ghost Value = { Part };
+
+    ghost view = { λ i. i.part };
+
+    ghost invariant = { λ i. Shows i.part.code i.shows.items };
+}
+
+impl Instance {
+    /// The instance of the part.
+    fn new(alloc: Global, part: Part) -> Result<Instance, AllocError>
+        ensures { IfOk result (λ i. i ≡ part) }
+    {
+        let shows = part.shown(alloc)?;
+        Ok(Instance { part, shows })
+    }
+
+    /// Computes what its output ports have.
+    fn refresh(&mut self)
+        ensures { IsRefreshed self.old self.new }
+    {
+        self.part.take(self.shows.as_slice());
+    }
+
+    /// One clock edge, where the top's nets have these numbers.
+    fn edge(&mut self, tops: &Cells)
+        ensures { self.new ≡ part_edged tops.now self.old }
+    {
+        self.part.edge(tops);
+    }
+
+    /// Makes this the number at a word of the memory in a row.
+    fn put(&mut self, row: usize, index: usize, value: u64)
+        ensures { self.new ≡ part_with row index value self.old }
+    {
+        self.part.put(row, index, value);
+    }
+
+    /// Gives the top's nets the numbers of the output ports that are joined to them.
+    fn show(&self, tops: &mut Cells)
+        ensures { tops.new ≡ linked self.now.kept.nets self.now.code.outs tops.old }
+    {
+        self.part.show(tops);
+    }
+}
+
+/// The instances of these parts.
+pub(crate) fn instances_of(alloc: Global, parts: Vec<Part>) -> Result<Vec<Instance>, AllocError>
+    ensures { IfOk result (λ v. v.items ≡ parts.items) }
+{
+    let mut all = Vec::new(alloc);
+    for part in parts {
+        all.push(Instance::new(alloc, part)?)?;
+    }
+    Ok(all)
+}
+
 /// Makes this the number at a word of the memory in a row of the instance of this number, if there is one.
-pub(crate) fn put_word(parts: &mut [Part], instance: usize, row: usize, index: usize, value: u64)
+pub(crate) fn put_word(
+    parts: &mut [Instance],
+    instance: usize,
+    row: usize,
+    index: usize,
+    value: u64,
+)
     ensures { parts.new ≡ parts_with instance row index value parts.old }
 {
     if instance < parts.len() {
@@ -72,17 +161,17 @@ pub(crate) fn put_word(parts: &mut [Part], instance: usize, row: usize, index: u
     }
 }
 
-/// Gives the nets of each instance their values, in order, whatever its input ports have.
-pub(crate) fn settle_all(parts: &mut [Part])
-    ensures { parts.new ≡ map part_settled parts.old }
+/// Computes what the output ports of each instance have, whatever its input ports have.
+pub(crate) fn refresh_all(parts: &mut [Instance])
+    ensures { AllRefreshed parts.old parts.new }
 {
     for part in parts.iter_mut() {
-        part.settle();
+        part.refresh();
     }
 }
 
 /// One clock edge of each instance, where the top's nets have these numbers.
-pub(crate) fn edge_all(parts: &mut [Part], tops: &Cells)
+pub(crate) fn edge_all(parts: &mut [Instance], tops: &Cells)
     ensures { parts.new ≡ map (part_edged tops.now) parts.old }
 {
     for part in parts.iter_mut() {
@@ -91,7 +180,7 @@ pub(crate) fn edge_all(parts: &mut [Part], tops: &Cells)
 }
 
 /// Gives the top's nets the numbers of the output ports that are joined to them.
-pub(crate) fn show_all(parts: &[Part], tops: &mut Cells)
+pub(crate) fn show_all(parts: &[Instance], tops: &mut Cells)
     ensures { tops.new ≡ shown_by parts.now tops.old }
 {
     let mut i = parts.len();
@@ -124,7 +213,8 @@ fn add_part(
     requires { IsLibrary library.now }
     ensures { OnOk result ((is : List TopItem) → HasLeaf (read_leaves library.now.leaves.now) item.now
         → AllFresh (place_in top.now.declared.now) (read_leaves library.now.leaves.now) is parts.old.items
-        → AllFresh (place_in top.now.declared.now) (read_leaves library.now.leaves.now) (is ++ item.now ∷ []) parts.new.items) }
+        → AllFresh (place_in top.now.declared.now) (read_leaves library.now.leaves.now)
+        (is ++ item.now ∷ []) parts.new.items) }
 {
     match item {
         TopItem::Instance { leaf, joins, .. } => {
@@ -150,7 +240,8 @@ pub(crate) fn fresh_parts(
 ) -> Result<Vec<Part>, AllocError>
     requires library { IsLibrary library.now }
     requires leaves { AllByRecursion (HasLeaf (read_leaves library.now.leaves.now)) items.now }
-    ensures { IfOk result (λ v. AllFresh (place_in top.now.declared.now) (read_leaves library.now.leaves.now) items.now v.items) }
+    ensures { IfOk result (λ v. AllFresh (place_in top.now.declared.now)
+        (read_leaves library.now.leaves.now) items.now v.items) }
 {
     let mut parts = Vec::new(alloc);
     for item in items {

@@ -55,6 +55,7 @@ pub struct Program {
     pub settle: Vec<Step>,
     /// Towards an edge: what registers and memories are to take.
     pub next: Vec<Step>,
+    /// At the edge: what memories take.
     pub stores: Vec<Store>,
     /// At the edge: what registers take.
     pub moves: Vec<Step>,
@@ -62,8 +63,9 @@ pub struct Program {
     pub feeds: Vec<Link>,
     /// From output ports to the top's nets.
     pub outs: Vec<Link>,
-    /// What the instance keeps, in order of declaration.
+    /// The registers that the instance keeps, in order of declaration.
     pub registers: Vec<Register>,
+    /// The memories that the instance keeps, in order of declaration.
     pub memories: Vec<Memory>,
 }
 
@@ -86,7 +88,9 @@ impl Model for Program {
 
 /// Adds the steps of an assign.
 fn add_assign(item: &LeafItem, scope: &Scope, steps: &mut Vec<Step>) -> Result<(), AllocError>
-    ensures { OnOk result (steps.new.items ≡ steps.old.items ++ item_assigns (place_in scope.now.declared.now) (widths_at scope.now.declared.now scope.now.lines) scope.now.lines (read_item item.now)) }
+    ensures { OnOk result (steps.new.items ≡ steps.old.items
+        ++ item_assigns (place_in scope.now.declared.now)
+        (widths_at scope.now.declared.now scope.now.lines) scope.now.lines (read_item item.now)) }
 {
     match item {
         LeafItem::Assign { name, value } => {
@@ -102,9 +106,11 @@ fn add_assign(item: &LeafItem, scope: &Scope, steps: &mut Vec<Step>) -> Result<(
     }
 }
 
+/// The steps of all assigns, in order.
 #[tactic(auto, using(crate::proofs::Items::items))]
 fn assigns(alloc: Global, items: &[LeafItem], scope: &Scope) -> Result<Vec<Step>, AllocError>
-    ensures { IfOk result (λ v. v.items ≡ assign_steps (place_in scope.now.declared.now) (widths_at scope.now.declared.now scope.now.lines) scope.now.lines (read_items items.now)) }
+    ensures { IfOk result (λ v. v.items ≡ assign_steps (place_in scope.now.declared.now)
+        (widths_at scope.now.declared.now scope.now.lines) scope.now.lines (read_items items.now)) }
 {
     let mut steps = Vec::new(alloc);
     for item in items {
@@ -133,9 +139,13 @@ fn add_store(
     scope: &Scope,
     steps: &mut Vec<Step>,
 ) -> Result<(), AllocError>
-    ensures { OnOk result (steps.new.items ≡ steps.old.items ++ ((steps_of (place_in scope.now.declared.now) (widths_at scope.now.declared.now scope.now.lines) free (free + 1) (read enable.now)
-        ++ steps_of (place_in scope.now.declared.now) (widths_at scope.now.declared.now scope.now.lines) (free + 1) (free + 1 + 1) (read index.now))
-        ++ steps_of (place_in scope.now.declared.now) (widths_at scope.now.declared.now scope.now.lines) (free + 1 + 1) (free + 1 + 1 + 1) (read value.now))) }
+    ensures { OnOk result (steps.new.items ≡ steps.old.items
+        ++ ((steps_of (place_in scope.now.declared.now) (widths_at scope.now.declared.now scope.now.lines)
+        free (free + 1) (read enable.now)
+        ++ steps_of (place_in scope.now.declared.now) (widths_at scope.now.declared.now scope.now.lines)
+        (free + 1) (free + 1 + 1) (read index.now))
+        ++ steps_of (place_in scope.now.declared.now) (widths_at scope.now.declared.now scope.now.lines)
+        (free + 1 + 1) (free + 1 + 1 + 1) (read value.now))) }
 {
     let second = next(free)?;
     let third = next(second)?;
@@ -153,7 +163,9 @@ fn add_next(
     scope: &Scope,
     steps: &mut Vec<Step>,
 ) -> Result<(), AllocError>
-    ensures { OnOk result (steps.new.items ≡ steps.old.items ++ item_next (place_in scope.now.declared.now) (widths_at scope.now.declared.now scope.now.lines) free (read_item item.now)) }
+    ensures { OnOk result (steps.new.items ≡ steps.old.items
+        ++ item_next (place_in scope.now.declared.now) (widths_at scope.now.declared.now scope.now.lines) free
+        (read_item item.now)) }
 {
     match item {
         LeafItem::Clocked { value, .. } => {
@@ -170,9 +182,11 @@ fn add_next(
     }
 }
 
+/// The steps that compute what registers and memories take at an edge, each at places of its own.
 #[tactic(auto, using(crate::proofs::Items::items))]
 fn next_edge(alloc: Global, items: &[LeafItem], scope: &Scope) -> Result<Vec<Step>, AllocError>
-    ensures { IfOk result (λ v. v.items ≡ next_steps (place_in scope.now.declared.now) (widths_at scope.now.declared.now scope.now.lines) scope.now.lines (read_items items.now)) }
+    ensures { IfOk result (λ v. v.items ≡ next_steps (place_in scope.now.declared.now)
+        (widths_at scope.now.declared.now scope.now.lines) scope.now.lines (read_items items.now)) }
 {
     let mut steps = Vec::new(alloc);
     let mut free = scope.lines;
@@ -183,13 +197,15 @@ fn next_edge(alloc: Global, items: &[LeafItem], scope: &Scope) -> Result<Vec<Ste
     Ok(steps)
 }
 
+/// Adds the step that gives a register what stands at `free` for it.
 fn add_move(
     item: &LeafItem,
     free: usize,
     scope: &Scope,
     steps: &mut Vec<Step>,
 ) -> Result<(), AllocError>
-    ensures { OnOk result (steps.new.items ≡ steps.old.items ++ item_moves (place_in scope.now.declared.now) free (read_item item.now)) }
+    ensures { OnOk result (steps.new.items ≡ steps.old.items
+        ++ item_moves (place_in scope.now.declared.now) free (read_item item.now)) }
 {
     match item {
         LeafItem::Clocked { name, .. } => {
@@ -200,9 +216,11 @@ fn add_move(
     }
 }
 
+/// The steps that give registers what stands there for them.
 #[tactic(auto, using(crate::proofs::Items::items))]
 fn moves(alloc: Global, items: &[LeafItem], scope: &Scope) -> Result<Vec<Step>, AllocError>
-    ensures { IfOk result (λ v. v.items ≡ move_steps (place_in scope.now.declared.now) scope.now.lines (read_items items.now)) }
+    ensures { IfOk result (λ v. v.items ≡ move_steps (place_in scope.now.declared.now) scope.now.lines
+        (read_items items.now)) }
 {
     let mut steps = Vec::new(alloc);
     let mut free = scope.lines;
@@ -213,13 +231,15 @@ fn moves(alloc: Global, items: &[LeafItem], scope: &Scope) -> Result<Vec<Step>, 
     Ok(steps)
 }
 
+/// Adds the store of a memory, whose enable, index and word stand at the places from `free` on.
 fn add_stores(
     item: &LeafItem,
     free: usize,
     scope: &Scope,
     stores: &mut Vec<Store>,
 ) -> Result<(), AllocError>
-    ensures { OnOk result (stores.new.items ≡ stores.old.items ++ item_stores (place_in scope.now.declared.now) free (read_item item.now)) }
+    ensures { OnOk result (stores.new.items ≡ stores.old.items
+        ++ item_stores (place_in scope.now.declared.now) free (read_item item.now)) }
 {
     if let LeafItem::Store { name, .. } = item {
         let index = next(free)?;
@@ -234,9 +254,11 @@ fn add_stores(
     Ok(())
 }
 
+/// The stores of the memories.
 #[tactic(auto, using(crate::proofs::Items::items))]
 fn stores(alloc: Global, items: &[LeafItem], scope: &Scope) -> Result<Vec<Store>, AllocError>
-    ensures { IfOk result (λ v. v.items ≡ stores_of (place_in scope.now.declared.now) scope.now.lines (read_items items.now)) }
+    ensures { IfOk result (λ v. v.items ≡ stores_of (place_in scope.now.declared.now) scope.now.lines
+        (read_items items.now)) }
 {
     let mut all = Vec::new(alloc);
     let mut free = scope.lines;
@@ -247,8 +269,10 @@ fn stores(alloc: Global, items: &[LeafItem], scope: &Scope) -> Result<Vec<Store>
     Ok(all)
 }
 
+/// Adds the step that gives a register its reset constant.
 fn add_reset(item: &LeafItem, scope: &Scope, steps: &mut Vec<Step>) -> Result<(), AllocError>
-    ensures { OnOk result (steps.new.items ≡ steps.old.items ++ item_resets (place_in scope.now.declared.now) (read_item item.now)) }
+    ensures { OnOk result (steps.new.items ≡ steps.old.items
+        ++ item_resets (place_in scope.now.declared.now) (read_item item.now)) }
 {
     match item {
         LeafItem::Clocked { name, reset, .. } => {
@@ -275,8 +299,10 @@ pub(crate) fn resets(
     Ok(steps)
 }
 
+/// Adds the register, if the item declares one.
 fn add_register(item: &LeafItem, scope: &Scope, all: &mut Vec<Register>) -> Result<(), AllocError>
-    ensures { OnOk result (all.new.items ≡ all.old.items ++ item_registers (place_in scope.now.declared.now) (read_item item.now)) }
+    ensures { OnOk result (all.new.items ≡ all.old.items
+        ++ item_registers (place_in scope.now.declared.now) (read_item item.now)) }
 {
     match item {
         LeafItem::Reg { high, name } => {
@@ -302,8 +328,10 @@ fn registers(alloc: Global, items: &[LeafItem], scope: &Scope) -> Result<Vec<Reg
     Ok(all)
 }
 
+/// Adds the memory, if the item declares one.
 fn add_memory(item: &LeafItem, scope: &Scope, all: &mut Vec<Memory>) -> Result<(), AllocError>
-    ensures { OnOk result (all.new.items ≡ all.old.items ++ item_memories (place_in scope.now.declared.now) (read_item item.now)) }
+    ensures { OnOk result (all.new.items ≡ all.old.items
+        ++ item_memories (place_in scope.now.declared.now) (read_item item.now)) }
 {
     match item {
         LeafItem::Mem { high, name, last } => {
@@ -351,7 +379,9 @@ fn add_feed(
     links: &mut Vec<Link>,
 ) -> Result<(), AllocError>
     requires { Declares leaf.now.declared.now (leaf_lines (read_leaf leaf.now.leaf.now)) }
-    ensures { OnOk result (links.new.items ≡ links.old.items ++ join_feeds (read_leaf leaf.now.leaf.now) (place_in scope.now.declared.now) (place_in top.now.declared.now) join.now) }
+    ensures { OnOk result (links.new.items ≡ links.old.items
+        ++ join_feeds (read_leaf leaf.now.leaf.now) (place_in scope.now.declared.now)
+        (place_in top.now.declared.now) join.now) }
 {
     if ways(leaf, join.port.as_slice()).0 {
         links.push(Link {
@@ -362,6 +392,7 @@ fn add_feed(
     Ok(())
 }
 
+/// The links from the top's nets to input ports.
 #[tactic(auto, using(crate::proofs::Items::items))]
 fn feeds(
     alloc: Global,
@@ -371,7 +402,8 @@ fn feeds(
     top: &Scope,
 ) -> Result<Vec<Link>, AllocError>
     requires { Declares leaf.now.declared.now (leaf_lines (read_leaf leaf.now.leaf.now)) }
-    ensures { IfOk result (λ v. v.items ≡ feeds_of (read_leaf leaf.now.leaf.now) (place_in scope.now.declared.now) (place_in top.now.declared.now) joins.now) }
+    ensures { IfOk result (λ v. v.items ≡ feeds_of (read_leaf leaf.now.leaf.now) (place_in scope.now.declared.now)
+        (place_in top.now.declared.now) joins.now) }
 {
     let mut links = Vec::new(alloc);
     for join in joins {
@@ -389,7 +421,9 @@ fn add_out(
     links: &mut Vec<Link>,
 ) -> Result<(), AllocError>
     requires { Declares leaf.now.declared.now (leaf_lines (read_leaf leaf.now.leaf.now)) }
-    ensures { OnOk result (links.new.items ≡ links.old.items ++ join_outs (read_leaf leaf.now.leaf.now) (place_in scope.now.declared.now) (place_in top.now.declared.now) join.now) }
+    ensures { OnOk result (links.new.items ≡ links.old.items
+        ++ join_outs (read_leaf leaf.now.leaf.now) (place_in scope.now.declared.now)
+        (place_in top.now.declared.now) join.now) }
 {
     if ways(leaf, join.port.as_slice()).1 {
         links.push(Link {
@@ -400,6 +434,7 @@ fn add_out(
     Ok(())
 }
 
+/// The links from output ports to the top's nets.
 #[tactic(auto, using(crate::proofs::Items::items))]
 fn outs(
     alloc: Global,
@@ -409,7 +444,8 @@ fn outs(
     top: &Scope,
 ) -> Result<Vec<Link>, AllocError>
     requires { Declares leaf.now.declared.now (leaf_lines (read_leaf leaf.now.leaf.now)) }
-    ensures { IfOk result (λ v. v.items ≡ outs_of (read_leaf leaf.now.leaf.now) (place_in scope.now.declared.now) (place_in top.now.declared.now) joins.now) }
+    ensures { IfOk result (λ v. v.items ≡ outs_of (read_leaf leaf.now.leaf.now) (place_in scope.now.declared.now)
+        (place_in top.now.declared.now) joins.now) }
 {
     let mut links = Vec::new(alloc);
     for join in joins {
@@ -438,7 +474,9 @@ impl Program {
         top: &Scope,
     ) -> Result<Program, AllocError>
         requires { Declares leaf.now.declared.now (leaf_lines (read_leaf leaf.now.leaf.now)) }
-        ensures { IfOk result (λ p. p ≡ code_of (place_in leaf.now.declared.now) (widths_at leaf.now.declared.now (length (leaf_lines (read_leaf leaf.now.leaf.now)))) (place_in top.now.declared.now) (read_leaf leaf.now.leaf.now) joins.now) }
+        ensures { IfOk result (λ p. p ≡ code_of (place_in leaf.now.declared.now)
+            (widths_at leaf.now.declared.now (length (leaf_lines (read_leaf leaf.now.leaf.now))))
+            (place_in top.now.declared.now) (read_leaf leaf.now.leaf.now) joins.now) }
     {
         let scope = scope_of(leaf);
         let items = leaf.leaf.items.as_slice();

@@ -10,7 +10,8 @@ use vl_tree::{Design, Leaf, LeafItem, TopItem};
 
 /// The name of the leaf of the instance of this number.
 fn leaf_name(items: &[TopItem], instance: u32) -> Option<&[u8]>
-    ensures some { IfSome result (λ n. (u : Name × Name) → slice_get (instances items.now) instance ≡ Some u → u.0 ≡ n.now) }
+    ensures some { IfSome result (λ n. (u : Name × Name) → slice_get (instances items.now) instance ≡ Some u
+        → u.0 ≡ n.now) }
     ensures none { IfNone result (slice_get (instances items.now) instance ≡ None) }
 {
     let mut left = instance;
@@ -55,7 +56,8 @@ fn memory_place(items: &[LeafItem], mem: u32) -> usize
     items.len()
 }
 
-/// The line of the leaf that declares the memory of this number, for the instance of this number; 0 where there is none.
+/// The line of the leaf that declares the memory of this number, for the instance of this number; 0 where there is
+/// none.
 pub(crate) fn memory_line(design: &Design, instance: u32, mem: u32) -> usize
     ensures { (u : Name × Name) (l : LeafValue) → slice_get (instances design.now.top.items) instance ≡ Some u
         → leaf_named (read_leaves design.now.leaves) u.0 ≡ Some l → result ≡ memory_line l mem }

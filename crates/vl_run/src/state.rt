@@ -8,6 +8,7 @@ ghost use Rattle.vl_run.specs.Emit.{place_in};
 ghost use Rattle.vl_run.specs.Start.{IsWithin, words_of, empty_memory, IsStart};
 ghost use Rattle.vl_run.specs.Program.{stored_in, linked};
 ghost use Rattle.vl_run.specs.Put.{kept_with};
+ghost use Rattle.vl_run.specs.Shown.{kept_after};
 ghost use Rattle.vl_run.specs.State.{settled_by, fed_by, readied_by, stored_by, moved_by, edged};
 
 use crate::cells::Cells;
@@ -46,6 +47,7 @@ pub(crate) fn copy(links: &[Link], from: &Cells, to: &mut Cells)
     }
 }
 
+/// Writes the word of a store, where its enable is 1.
 fn store_one(store: Store, nets: &Cells, memories: &mut [Cells])
     ensures { memories.new ≡ stored_in nets.now (store ∷ []) memories.old }
 {
@@ -55,6 +57,7 @@ fn store_one(store: Store, nets: &Cells, memories: &mut [Cells])
     }
 }
 
+/// Writes the words of the stores, in order.
 fn store(stores: &[Store], nets: &Cells, memories: &mut [Cells])
     ensures { memories.new ≡ stored_in nets.now stores.now memories.old }
 {
@@ -102,7 +105,8 @@ fn memories(alloc: Global, subject: &Module) -> Result<Vec<Cells>, AllocError>
 impl State {
     /// The state at reset, with memories of 0.
     pub(crate) fn new(alloc: Global, leaf: &Known, program: &Program) -> Result<State, AllocError>
-        ensures { IfOk result (λ k. IsStart (place_in leaf.now.declared.now) (read_leaf leaf.now.leaf.now) program.now k) }
+        ensures { IfOk result (λ k. IsStart (place_in leaf.now.declared.now)
+            (read_leaf leaf.now.leaf.now) program.now k) }
     {
         let scope = scope_of(leaf);
         let settle = room(program.settle.as_slice(), scope.lines)?;
@@ -123,8 +127,15 @@ impl State {
         copy(program.feeds.as_slice(), tops, &mut self.nets);
     }
 
+    /// Takes these steps, in order.
+    pub(crate) fn take(&mut self, steps: &[Step])
+        ensures { self.new ≡ kept_after steps.now self.old }
+    {
+        run(steps, &mut self.nets, self.memories.as_slice());
+    }
+
     /// Gives each assigned net its value, in order.
-    pub(crate) fn settle(&mut self, program: &Program)
+    fn settle(&mut self, program: &Program)
         ensures { self.new ≡ settled_by program.now self.old }
     {
         run(

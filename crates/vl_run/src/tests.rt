@@ -1,10 +1,13 @@
+//! A counter and a memory, run by hand.
+
 use crate::Machine;
 use std::alloc::{AllocError, Global};
 use std::test::Fail;
 use vl_read::read_design;
 use vl_rules::{Sound, rules};
 
-/// A counter of two bits that steps when it is fed a 1, and a memory of two words that is read and written at the lower bit.
+/// A counter of two bits that steps when it is fed a 1, and a memory of two words that is read and written at the lower
+/// bit.
 const COUNTS: &[u8] =
     b"module r_0 (input wire clk, input wire rst, input wire [0:0] a_0, output wire [1:0] q_0,
   output wire [3:0] w_0);

@@ -1,4 +1,4 @@
-use Rattle.std.proofs.Common.{◌≡◌, List, length, map, sym, ◌∙◌, ap, subst}
+use Rattle.std.proofs.Common.{◌≡◌, List, length, sym, ◌∙◌, ap, subst}
 use Rattle.std.specs.Prelude.{slice_get}
 use Rattle.std.proofs.lemmas.List.{with_items_is}
 use Rattle.vl_tree.specs.Values.{Design}
@@ -6,13 +6,16 @@ use Rattle.vl_tree.specs.Read.{read_design, read_leaves}
 use Rattle.vl_tree.proofs.Plainly.{plain_is}
 use Rattle.vl_model.specs.Lines.{leaf_named}
 use Rattle.vl_model.specs.Rules.{IsSound}
-use Rattle.vl_run.specs.State.{Part, part_settled, shown_by}
+use Rattle.vl_run.specs.State.{Part}
+use Rattle.vl_run.specs.Shown.{AllRefreshed}
+use Rattle.vl_run.specs.Running.{running}
 use Rattle.vl_run.specs.Put.{instances, memory_line, parts_with, with_word_in}
 use Rattle.vl_run.specs.Stands.{Running, Stands}
 use Rattle.vl_model.specs.Settle.{inside_reset}
 use Rattle.vl_model.proofs.Passed.{leaf-sound}
 use Rattle.vl_run.proofs.FirstPut.{first-put}
-use Rattle.vl_run.proofs.WordPut.{memory-kind, put-whole, length-with}
+use Rattle.vl_run.proofs.Refreshed.{stands-again}
+use Rattle.vl_run.proofs.WordPut.{memory-kind, put-parts, length-with}
 use Rattle.vl_run.proofs.machine.Machine.put_mem.Goals as goal
 
 pub returns-clause-puts : goal.returns-clause-puts
@@ -28,9 +31,12 @@ returns-clause-puts c = λ inside u l m stands at named is-memory within fits. (
     ∙ ap (parts_with c.args.instance (memory_line l c.args.mem) c.args.index c.args.value) c.as_mut_slice.ensures.value in
     let long = ap length put ∙ length-with c.args.instance (memory_line l c.args.mem) c.args.index c.args.value s.parts.items ∙ sym s.parts.ok.0 in
     let back = with_items_is s.parts c.put_word.new.parts long ∙ put in
-    let made : List Part → Running = λ ys. record { design = d; parts = map part_settled ys; tops = shown_by (map part_settled ys) s.tops; ports = s.ports.items } in
-    subst (λ (r : Running). Stands r (with_word_in inside u.1 m.name c.args.index c.args.value)) (sym (c.refresh.ensures ∙ ap made back))
-    (put-whole d sound inside s.parts.items s.tops s.ports.items stands c.args.instance u at l named c.args.mem m is-memory c.args.index c.args.value within fits))
+    let r : Running = running c.refresh.new.self in
+    let parts : AllRefreshed (parts_with c.args.instance (memory_line l c.args.mem) c.args.index c.args.value s.parts.items) r.parts = subst (λ (ys : List Part). AllRefreshed ys r.parts) back c.refresh.ensures.parts in
+    stands-again d sound stands.top stands.places (with_word_in inside u.1 m.name c.args.index c.args.value)
+    (parts_with c.args.instance (memory_line l c.args.mem) c.args.index c.args.value s.parts.items)
+    (put-parts d sound inside s.parts.items s.tops s.ports.items stands c.args.instance u at l named c.args.mem m is-memory c.args.index c.args.value within fits)
+    s.tops s.ports.items stands.room stands.ports r c.refresh.ensures.design c.refresh.ensures.ports parts c.refresh.ensures.tops)
 
 pub returns-clause-first : goal.returns-clause-first
 returns-clause-first c = λ first u l m stands at named is-memory within fits. (
