@@ -18,13 +18,13 @@ count_at x d k = slice_index_or (lane x.lanes d) k 0
 abbrev pub with_count : Counts → ℕ → ℕ → ℕ → Counts
 with_count x d k n = record { lanes = slice_set x.lanes d (slice_set (lane x.lanes d) k n); buffer = x.buffer }
 
--- as many credits as the buffer has room, for each channel of each port
+-- a credit for each slot of the buffer, for each channel of each port
 abbrev pub full_counts : Plan → Counts
 full_counts p = record {
   lanes = map (λ d. replicate (input_count p d) p.buffer) (range_with_len 0 (length p.domains));
   buffer = p.buffer;
 }
 
--- no count is above the buffer's room
+-- no count is above the number of the buffer's slots
 abbrev pub AreWithin : List (List ℕ) → ℕ → Type 0
 AreWithin v buffer = (d k : ℕ) → slice_index_or (lane v d) k 0 ≤ buffer

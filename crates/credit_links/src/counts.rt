@@ -29,7 +29,7 @@ impl Model for Credits {
 }
 
 impl Credits {
-    /// The credits of a tile at the start: the room of a buffer for each channel. All memory is taken here.
+    /// The credits of a tile at the start: the slots of a buffer for each channel. All memory is taken here.
     ///
     /// # Errors
     ///

@@ -1,8 +1,8 @@
 //! The row of registers of a link.
 
-ghost use Rattle.std.specs.Prelude.{◌≡◌, ◌≤◌, ◌-◌, ◌∷◌, length, take, replicate, None, IfOk};
+ghost use Rattle.std.specs.Prelude.{◌≡◌, ◌≤◌, ◌-◌, ◌∷◌, ◌↔◌, ℕ, length, take, replicate, None, IfOk, IsTrue};
 ghost use Rattle.noc_model.specs.Limits.{most_stages};
-ghost use Rattle.credit_links.specs.Rows.{last_place};
+ghost use Rattle.credit_links.specs.Rows.{place_at, last_place};
 
 use circular_buffer::HeapCircularBuffer;
 use flit_word::LinkFlit;
@@ -52,6 +52,28 @@ impl Pipe {
             Some(place) => *place,
             None => None,
         }
+    }
+
+    /// The flit in register `i`, counted from the one that a flit enters first.
+    fn at(&self, i: usize) -> Option<LinkFlit>
+        ensures { result ≡ place_at self.now i }
+    {
+        match self.places.get(i) {
+            Some(place) => *place,
+            None => None,
+        }
+    }
+
+    /// Whether no register has a flit. A shift that puts nothing in then changes nothing.
+    pub fn is_empty(&self) -> bool
+        ensures { IsTrue result ↔ ((i : ℕ) → place_at self.now i ≡ None) }
+    {
+        for i in 0..self.places.len() {
+            if self.at(i).is_some() {
+                return false;
+            }
+        }
+        true
     }
 
     /// Moves each flit on by one register, and puts `next` into the first. It gives the flit that left the last one.

@@ -1,4 +1,4 @@
-//! Rows of a link of two places, and of the credits of two domains.
+//! Rows of a link of two registers, and of the credits of two domains.
 
 use crate::{Credits, Pipe};
 use flit_word::{Flit, LinkFlit};

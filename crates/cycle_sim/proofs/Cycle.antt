@@ -40,13 +40,22 @@ use Rattle.router_core.specs.Pulses.{pulse_at, is_pulse}
 use Rattle.router_core.specs.Sizes.{HasPorts, IsMade}
 use Rattle.wave_sched.specs.Wheels.{Stands}
 use Rattle.router_core.specs.Shown as routers
+use Rattle.router_core.specs.Idle.{IsIdle}
+use Rattle.router_core.proofs.Idle.{ComesNothing, rest-sends, rest-steps}
+use Rattle.cycle_sim.specs.Asleep.{is_awake, SendsNothing, IsAsleep, AreAsleep, HasSlept}
 use Rattle.cycle_sim.specs.Attached.{with_told, told_by, state_after}
 use Rattle.cycle_sim.specs.Links.{row_of, pulses_of, arrival_at, credit_at, ComesIn}
 use Rattle.cycle_sim.specs.TileCycle.{AreAllPulses, MayStep, HasStepped}
 use Rattle.cycle_sim.specs.Net.{kept, Shows, IsRun, IsQuiet, IsRouterOf, IsWhole}
-use Rattle.cycle_sim.proofs.Numbers.{arrival-unlinked, credit-unlinked, credit-linked, arrival-linked, number-below, quotient-below, remainder-below}
-use Rattle.cycle_sim.proofs.Told.{shows-told, made-told}
+use Rattle.cycle_sim.proofs.Numbers.{arrival-unlinked, arrival-empty, none-either, credit-unlinked, credit-linked, arrival-linked, number-below, quotient-below, remainder-below}
+use Rattle.cycle_sim.proofs.Kept.{shows-wheel}
+use Rattle.cycle_sim.proofs.Sleeping.{idle-wheel}
+use Rattle.cycle_sim.proofs.Told.{shows-told, made-told, idle-told}
 use Rattle.cycle_sim.proofs.Written.{get-below, record-at}
+
+pub either_way : {A : Type 0} (b : Bool) → (b ≡ true → A) → (b ≡ false → A) → A
+either_way true up down = up refl
+either_way false up down = down refl
 
 -- ---- a row, shifted
 
@@ -93,35 +102,42 @@ return-none : (p : Plan) (s : State) (n o w : ℕ) → neighbour p n o ≡ None 
 unfolding return_of
 return-none p s n o w e = rw e refl
 
--- the first phases of a cycle: the routers are told, and the credit pulses are kept
-pub record HasCycled (p : Plan) (t : ℕ) (v : Driver) (st : ℕ → List ℕ) (first told : List Parts) (pulses : List (List (List (Option ℕ))))
+-- the first phases of a cycle: the credit pulses are kept, the tiles to which something comes are woken, and the routers of
+-- those that are awake are told
+pub record HasCycled (p : Plan) (t : ℕ) (v : Driver) (st : ℕ → List ℕ) (awake : List Bool) (first told : List Parts) (pulses : List (List (List (Option ℕ))))
     (rows : List (List (Option LinkFlit))) : Type 0 where
   pub whole : IsWhole (kept p t first rows)
   pub told_count : length told ≡ tiles p
   pub told_same : (n : ℕ) (r new : Parts) → slice_get first n ≡ Some r → slice_get told n ≡ Some new → new ≡ with_told r new.told
   pub told_len : (n : ℕ) (r new : Parts) → slice_get first n ≡ Some r → slice_get told n ≡ Some new → length new.told ≡ length r.told
   pub told_by_driver : (j : ℕ) (h : Host) (new : Parts) → slice_get p.hosts j ≡ Some h → slice_get told h.tile ≡ Some new
-      → told_at new.told h.domain ≡ told_by v t j (st j)
+      → is_awake awake h.tile ≡ true → told_at new.told h.domain ≡ told_by v t j (st j)
   pub told_away : (n d : ℕ) (r new : Parts) → slice_get first n ≡ Some r → slice_get told n ≡ Some new → hosts p n d ≡ false
       → told_at new.told d ≡ told_at r.told d
   pub pulse_count : length pulses ≡ tiles p
   pub pulse_ports : (n : ℕ) → n < tiles p → HasPorts p (pulses_of pulses n)
-  pub pulse_same : (n d port : ℕ) (r : Parts) → slice_get told n ≡ Some r → d < length p.domains → port < ports p
+  pub pulse_same : (n d port : ℕ) (r : Parts) → slice_get first n ≡ Some r → d < length p.domains → port < ports p
       → pulse_at (pulses_of pulses n) d port ≡ pulse_at r.pulses d port
+  -- where a tile sleeps
+  pub asleep : (n : ℕ) (r : Parts) → slice_get first n ≡ Some r → is_awake awake n ≡ false → IsAsleep p n r rows pulses
+  pub offers : (j : ℕ) (h : Host) → slice_get p.hosts j ≡ Some h → is_awake awake h.tile ≡ false → v.offer j (st j) t ≡ None
+  pub nothing : (n port m : ℕ) → n < tiles p → neighbour p n port ≡ Some m → is_awake awake n ≡ false → SendsNothing p rows pulses m (opposite port)
 
--- then the tiles step, and the rows are shifted
-pub record HasMoved (p : Plan) (t : ℕ) (told after : List Parts) (pulses : List (List (List (Option ℕ)))) (outs : List RouterOut)
+-- then the tiles that are awake step, and their rows are shifted
+pub record HasMoved (p : Plan) (t : ℕ) (awake : List Bool) (told after : List Parts) (pulses : List (List (List (Option ℕ)))) (outs : List RouterOut)
     (rows next : List (List (Option LinkFlit))) : Type 0 where
   pub after_count : length after ≡ tiles p
   pub out_count : length outs ≡ tiles p
   pub stepped : (n : ℕ) (r new : Parts) (out : RouterOut) → slice_get told n ≡ Some r → slice_get after n ≡ Some new → slice_get outs n ≡ Some out
-      → HasStepped p n t rows pulses r new out.links.items
+      → is_awake awake n ≡ true → HasStepped p n t rows pulses r new out.links.items
+  pub slept : (n : ℕ) (r new : Parts) → slice_get told n ≡ Some r → slice_get after n ≡ Some new → is_awake awake n ≡ false → HasSlept p n t r new
   pub next_count : length next ≡ tiles p * ports p
-  pub next_is : (n o : ℕ) (out : RouterOut) → slice_get outs n ≡ Some out → o < ports p
+  pub next_is : (n o : ℕ) (out : RouterOut) → slice_get outs n ≡ Some out → is_awake awake n ≡ true → o < ports p
       → row_of p next n o ≡ slice_index_or out.links.items o None ∷ take (length (row_of p rows n o) - 1) (row_of p rows n o)
+  pub next_asleep : (n o : ℕ) → is_awake awake n ≡ false → o < ports p → row_of p next n o ≡ row_of p rows n o
 
-module _ (p : Plan) (t : ℕ) (v : Driver) (st : ℕ → List ℕ) (first told after : List Parts) (pulses : List (List (List (Option ℕ))))
-    (outs : List RouterOut) (rows next : List (List (Option LinkFlit))) (sound : IsSound p) (c : HasCycled p t v st first told pulses rows) where
+module _ (p : Plan) (t : ℕ) (v : Driver) (st : ℕ → List ℕ) (awake : List Bool) (first told after : List Parts) (pulses : List (List (List (Option ℕ))))
+    (outs : List RouterOut) (rows next : List (List (Option LinkFlit))) (sound : IsSound p) (c : HasCycled p t v st awake first told pulses rows) where
   abbrev input : ℕ → Input
   input d = driven p d v st t
 
@@ -161,8 +177,8 @@ module _ (p : Plan) (t : ℕ) (v : Driver) (st : ℕ → List ℕ) (first told a
       few : (m d port w : ℕ) → m < tiles p → d < length p.domains → pulse_at (pulses_of pulses m) d port ≡ Some w → w < link_channels p d
       few m d port w inside there is = ⊎_elim
           (λ low.
-          let r = record-at told m (omega (arith, inside, c.told_count)) in
-          (router-told m r.0 r.1).quiet.pulses d port w there (sym (c.pulse_same m d port r.0 r.1 there low) ∙ is))
+          let r = record-at first m (omega (arith, inside, c.whole.routers)) in
+          (c.whole.router m r.0 r.1).quiet.pulses d port w there (sym (c.pulse_same m d port r.0 r.1 there low) ∙ is))
           (λ high.
           let long = (c.pulse_ports m inside).ports d there in
           let past : pulse_at (pulses_of pulses m) d port ≡ None = get_or_past (lane (pulses_of pulses m) d) port None (omega (arith, long, high)) in
@@ -205,23 +221,19 @@ module _ (p : Plan) (t : ℕ) (v : Driver) (st : ℕ → List ℕ) (first told a
             let link = link-from p n o m all inside e in
             let m_in = neighbour-inside p n o m all e in
             let low = link-below p m (opposite o) (ap is_some link.back) in
-            let far : m < length told = omega (arith, m_in, c.told_count) in
-            let first_in : m < length first = omega (arith, m_in, c.whole.routers) in
-            let a = record-at first m first_in in
-            let r : Parts = get_or told m a.0 in
-            let r_at = slice_get-get_or told m a.0 far in
-            return-some p s n o m w e ∙ sym ((shows-old m r r_at).pulse (opposite o) w low few)
-            ∙ ap (λ k. is_pulse k w) (sym (c.pulse_same m d (opposite o) r r_at there low) ∙ sym (credit-linked p d n pulses o m e))
+            let a = record-at first m (omega (arith, m_in, c.whole.routers)) in
+            return-some p s n o m w e ∙ sym ((shown.each m a.0 a.1).pulse (opposite o) w low few)
+            ∙ ap (λ k. is_pulse k w) (sym (c.pulse_same m d (opposite o) a.0 a.1 there low) ∙ sym (credit-linked p d n pulses o m e))
 
-    told-is : (n : ℕ) (r : Parts) → slice_get told n ≡ Some r
+    told-is : (n : ℕ) (r : Parts) → slice_get told n ≡ Some r → is_awake awake n ≡ true
         → ((fed p d s (input d) n).offer ≡ (told_at r.told d).offer) × ((fed p d s (input d) n).hears ≡ (told_at r.told d).hears)
-    told-is n r is = go (hosts p n d) refl
+    told-is n r is up = go (hosts p n d) refl
       where
         go : (b : Bool) → hosts p n d ≡ b
             → ((fed p d s (input d) n).offer ≡ (told_at r.told d).offer) × ((fed p d s (input d) n).hears ≡ (told_at r.told d).hears)
         go true e =
             let has = attached p n d e in
-            let x = c.told_by_driver has.number (record { tile = n; domain = d }) r has.at is in (
+            let x = c.told_by_driver has.number (record { tile = n; domain = d }) r has.at is up in (
               ap (λ b. if b then offer_at v st t (attach_of p n d) else None) e ∙ ap (offer_at v st t) has.is ∙ sym (ap (λ (y : Told). y.offer) x),
               ap (λ b. b && hears_at v st t (attach_of p n d)) e ∙ ap (hears_at v st t) has.is ∙ sym (ap (λ (y : Told). y.hears) x),
             )
@@ -231,10 +243,10 @@ module _ (p : Plan) (t : ℕ) (v : Driver) (st : ℕ → List ℕ) (first told a
               ap (λ b. b && hears_at v st t (attach_of p n d)) e ∙ sym (ap (λ (y : Told). y.hears) x),
             )
 
-    pub comes : (n : ℕ) (r : Parts) → slice_get told n ≡ Some r → ComesIn p d n t rows pulses (told_at r.told d) (fed p d s (input d) n)
-    comes n r is =
+    pub comes : (n : ℕ) (r : Parts) → slice_get told n ≡ Some r → is_awake awake n ≡ true → ComesIn p d n t rows pulses (told_at r.told d) (fed p d s (input d) n)
+    comes n r is up =
         let inside = tile-in n r is in
-        let x = told-is n r is in
+        let x = told-is n r is up in
         record {
           arrives = λ port. arrives-is n port inside;
           returns = λ o w few. returns-is n o w inside few;
@@ -242,20 +254,75 @@ module _ (p : Plan) (t : ℕ) (v : Driver) (st : ℕ → List ℕ) (first told a
           hears = x.1;
         }
 
-    module _ (moved : HasMoved p t told after pulses outs rows next) where
+    -- to a tile that sleeps nothing comes
+    offers-nothing : (n : ℕ) → is_awake awake n ≡ false → (fed p d s (input d) n).offer ≡ None
+    offers-nothing n down = go (hosts p n d) refl
+      where
+        go : (b : Bool) → hosts p n d ≡ b → (fed p d s (input d) n).offer ≡ None
+        go true e =
+            let has = attached p n d e in
+            ap (λ b. if b then offer_at v st t (attach_of p n d) else None) e ∙ ap (offer_at v st t) has.is ∙ c.offers has.number (record { tile = n; domain = d }) has.at down
+        go false e = ap (λ b. if b then offer_at v st t (attach_of p n d) else None) e
+
+    comes-nothing : (n : ℕ) → n < tiles p → is_awake awake n ≡ false → ComesNothing p d (fed p d s (input d) n)
+    comes-nothing n inside down = record {
+      arrives = λ port low. arrives-is n port inside ∙ arrival-nothing port (neighbour p n port) refl;
+      returns = λ o w low few. returns-is n o w inside few ∙ ap (λ k. is_pulse k w) (credit-nothing o (neighbour p n o) refl);
+      offer = offers-nothing n down;
+    }
+      where
+        arrival-nothing : (port : ℕ) (x : Option ℕ) → neighbour p n port ≡ x → arrival_at p d n t rows port ≡ None
+        arrival-nothing port None e = arrival-unlinked p d n t rows port e
+        arrival-nothing port (Some m) e = arrival-empty p d n t rows port m e (row_of p rows m (opposite port)) refl (c.nothing n port m inside e down).flit
+
+        credit-nothing : (o : ℕ) (x : Option ℕ) → neighbour p n o ≡ x → credit_at p d n pulses o ≡ None
+        credit-nothing o None e = credit-unlinked p d n pulses o e
+        credit-nothing o (Some m) e = credit-linked p d n pulses o m e ∙ (c.nothing n o m inside e down).credit d there
+
+    module _ (moved : HasMoved p t awake told after pulses outs rows next) where
       tile-steps : (n : ℕ) (new : Parts) → slice_get after n ≡ Some new → routers.Shows new p d (tile_step p d n (pos t) (s n) (fed p d s (input d) n))
       tile-steps n new is =
           let low = get-below after n new is in
           let far : n < length told = omega (arith, low, moved.after_count, c.told_count) in
+          let inside : n < tiles p = omega (arith, low, moved.after_count) in
           let out_in : n < length outs = omega (arith, low, moved.after_count, moved.out_count) in
           let r : Parts = get_or told n new in
           let r_at = slice_get-get_or told n new far in
           let out = record-at outs n out_in in
-          (moved.stepped n r new out.0 r_at is out.1).steps d (s n) (fed p d s (input d) n) there (shows-old n r r_at) (comes n r r_at)
+          either_way (is_awake awake n)
+          (λ up. (moved.stepped n r new out.0 r_at is out.1 up).steps d (s n) (fed p d s (input d) n) there (shows-old n r r_at) (comes n r r_at up))
+          (λ down.
+          let a = first-at n r r_at in
+          let slept = moved.slept n r new r_at is down in
+          let stays = rest-steps a.0 p d n (pos t) (s n) (fed p d s (input d) n) ((c.asleep n a.0 a.1 down).idle d there) (shown.each n a.0 a.1) (comes-nothing n inside down) in
+          subst (λ (q : Parts). routers.Shows q p d (tile_step p d n (pos t) (s n) (fed p d s (input d) n))) (sym slept.rest)
+          (shows-wheel r new.wheel p d (tile_step p d n (pos t) (s n) (fed p d s (input d) n))
+          (subst (λ (q : Parts). routers.Shows q p d (tile_step p d n (pos t) (s n) (fed p d s (input d) n))) (sym a.2)
+          (shows-told a.0 r.told p d (tile_step p d n (pos t) (s n) (fed p d s (input d) n)) stays))))
 
-      row-steps : (n o m i : ℕ) → n < tiles p → neighbour p n o ≡ Some m → i < p.stages
+      row-asleep : (n o m i : ℕ) → n < tiles p → neighbour p n o ≡ Some m → i < p.stages → is_awake awake n ≡ false
           → shifted (sent p d n (pos t) (s n) (fed p d s (input d) n) o) ((s n).row o) i ≡ own_places p d n o (pos (t + 1)) (place_at (row_of p next n o)) i
-      row-steps n o m i inside linked below = go i below
+      row-asleep n o m i inside linked below down = go i below ∙ sym (none-own (pos (t + 1)) i (row_of p next n o) (ap (λ row. place_at row i) (moved.next_asleep n o down low) ∙ empty i))
+        where
+          low : o < ports p
+          low = link-below p n o (ap is_some linked)
+
+          a : (z : Parts) × (slice_get first n ≡ Some z)
+          a = record-at first n (omega (arith, inside, c.whole.routers))
+
+          empty : (j : ℕ) → place_at (row_of p rows n o) j ≡ None
+          empty j = (c.asleep n a.0 a.1 down).empty o j low
+
+          none-own : (T : ℤ) (j : ℕ) (row : List (Option LinkFlit)) → place_at row j ≡ None → own_places p d n o T (place_at row) j ≡ None
+          none-own T j row e = ap (λ x. if owner p n o (filled_in T j) == d then x else None) e ∙ none-either (owner p n o (filled_in T j) == d)
+
+          go : (j : ℕ) → j < p.stages → shifted (sent p d n (pos t) (s n) (fed p d s (input d) n) o) ((s n).row o) j ≡ None
+          go zero less = rest-sends a.0 p d n (pos t) (s n) (fed p d s (input d) n) ((c.asleep n a.0 a.1 down).idle d there) (shown.each n a.0 a.1) o
+          go (suc j) less = shown.rows n o m j inside linked (omega (arith, less)) ∙ none-own (pos t) j (row_of p rows n o) (empty j)
+
+      row-awake : (n o m i : ℕ) → n < tiles p → neighbour p n o ≡ Some m → i < p.stages → is_awake awake n ≡ true
+          → shifted (sent p d n (pos t) (s n) (fed p d s (input d) n) o) ((s n).row o) i ≡ own_places p d n o (pos (t + 1)) (place_at (row_of p next n o)) i
+      row-awake n o m i inside linked below up = go i below
         where
           T : ℤ
           T = pos t
@@ -282,13 +349,13 @@ module _ (p : Plan) (t : ℕ) (v : Driver) (st : ℕ → List ℕ) (first told a
           new = record-at after n (omega (arith, inside, moved.after_count))
 
           is_new : row_of p next n o ≡ y ∷ take (length old - 1) old
-          is_new = moved.next_is n o out.0 out.1 low
+          is_new = moved.next_is n o out.0 out.1 up low
 
           later : T +ℤ pos 1 ≡ pos (t + 1)
           later = omega (arith, ints)
 
           sends : owner p n o T ≡ d → y ≡ x
-          sends own = (moved.stepped n r.0 new.0 out.0 r.1 new.1 out.1).out_is d o m (s n) (fed p d s (input d) n) there (shows-old n r.0 r.1) (comes n r.0 r.1) linked own
+          sends own = (moved.stepped n r.0 new.0 out.0 r.1 new.1 out.1 up).out_is d o m (s n) (fed p d s (input d) n) there (shows-old n r.0 r.1) (comes n r.0 r.1 up) linked own
 
           go : (i : ℕ) → i < p.stages → shifted x ((s n).row o) i ≡ own_places p d n o (pos (t + 1)) (place_at (row_of p next n o)) i
           go zero less =
@@ -302,26 +369,30 @@ module _ (p : Plan) (t : ℕ) (v : Driver) (st : ℕ → List ℕ) (first told a
               ∙ ap (λ k. if owner p n o k == d then place_at (take (length old - 1) old) j else None) (sym (filled-next T j) ∙ ap (λ k. filled_in k (suc j)) later)
               ∙ ap (λ row. if owner p n o (filled_in (pos (t + 1)) (suc j)) == d then place_at row (suc j) else None) (sym is_new)
 
+      row-steps : (n o m i : ℕ) → n < tiles p → neighbour p n o ≡ Some m → i < p.stages
+          → shifted (sent p d n (pos t) (s n) (fed p d s (input d) n) o) ((s n).row o) i ≡ own_places p d n o (pos (t + 1)) (place_at (row_of p next n o)) i
+      row-steps n o m i inside linked below = either_way (is_awake awake n) (λ up. row-awake n o m i inside linked below up) (λ down. row-asleep n o m i inside linked below down)
+
       -- each domain's state goes on as if the domain were alone
       pub shows-next : Shows (kept p (t + 1) after next) d (step p d (pos t) s (input d))
       unfolding step tile_step
       shows-next = record { each = tile-steps; rows = row-steps }
 
   -- the router of a tile may step
-  pub may-step : (n d : ℕ) (r : Parts) → slice_get told n ≡ Some r → d < length p.domains → MayStep p d n t rows pulses r
-  may-step n d r is there =
+  pub may-step : (n d : ℕ) (r : Parts) → slice_get told n ≡ Some r → is_awake awake n ≡ true → d < length p.domains → MayStep p d n t rows pulses r
+  may-step n d r is up there =
       let run : IsRun (kept p t first rows) d = c.whole.runs d there in
       record {
         tile = run.state n;
         input = fed p d run.state (input d) n;
         shows = shows-old d run.state there run.shows n r is;
-        comes = comes d run.state there run.shows n r is;
+        comes = comes d run.state there run.shows n r is up;
         sound = run.reached.sound n;
         held = run.reached.held n;
         may = fed-may p d n (pos t) run.state (input d) sound (tile-in n r is) run.reached.sound run.sum;
       }
 
-  module _ (moved : HasMoved p t told after pulses outs rows next) where
+  module _ (moved : HasMoved p t awake told after pulses outs rows next) where
     row-fits : (k : ℕ) (row : List (Option LinkFlit)) → slice_get next k ≡ Some row → length row ≡ p.stages
     row-fits k row is =
         let low = get-below next k row is in
@@ -337,8 +408,9 @@ module _ (p : Plan) (t : ℕ) (v : Driver) (st : ℕ → List ℕ) (first told a
         let some = sound.stages.0 in
         let tail = take-last old (length old - 1) (omega (arith, some, long)) in
         let is_row : row_of p next n o ≡ row = ap (λ j. get_or next j []) whole ∙ get_or_from_slice_get next k row [] is in
-        let parts = ap length (sym is_row ∙ moved.next_is n o out.0 out.1 o_in) in
-        omega (arith, parts, tail, some, long)
+        either_way (is_awake awake n)
+        (λ up. let parts = ap length (sym is_row ∙ moved.next_is n o out.0 out.1 up o_in) in omega (arith, parts, tail, some, long))
+        (λ down. ap length (sym is_row ∙ moved.next_asleep n o down o_in) ∙ long)
 
     -- the network after the cycle
     pub whole-next : t < most_cycles → IsWhole (kept p (t + 1) after next)
@@ -351,7 +423,7 @@ module _ (p : Plan) (t : ℕ) (v : Driver) (st : ℕ → List ℕ) (first told a
           (let low = get-below after n new is in
           let r = record-at told n (omega (arith, low, moved.after_count, c.told_count)) in
           let out = record-at outs n (omega (arith, low, moved.after_count, moved.out_count)) in
-          (moved.stepped n r.0 new out.0 r.1 is out.1).router);
+          either_way (is_awake awake n) (λ up. (moved.stepped n r.0 new out.0 r.1 is out.1 up).router) (λ down. (moved.slept n r.0 new r.1 is down).router));
       runs = λ d there.
           (let run : IsRun (kept p t first rows) d = c.whole.runs d there in
           let later : suc t ≡ t + 1 = omega arith in
@@ -366,12 +438,22 @@ module _ (p : Plan) (t : ℕ) (v : Driver) (st : ℕ → List ℕ) (first told a
       starts = λ zero d there. absurd (omega (arith, zero));
     }
 
-    pub links-next : (n : ℕ) (out : RouterOut) → slice_get outs n ≡ Some out → length out.links.items ≡ ports p
-    links-next n out is =
-        let low = get-below outs n out is in
-        let r = record-at told n (omega (arith, low, moved.out_count, c.told_count)) in
-        let new = record-at after n (omega (arith, low, moved.out_count, moved.after_count)) in
-        (moved.stepped n r.0 new.0 out r.1 new.1 is).links
+    -- the tiles that slept have nothing to do
+    pub asleep-next : length awake ≡ tiles p → AreAsleep p after next pulses awake
+    asleep-next count = record {
+      count = count;
+      each = λ n new is down.
+          (let low = get-below after n new is in
+          let r = record-at told n (omega (arith, low, moved.after_count, c.told_count)) in
+          let a = first-at n r.0 r.1 in
+          let was = c.asleep n a.0 a.1 down in
+          let told_idle = subst (IsIdle p) (sym a.2) (idle-told p a.0 (r.0).told was.idle) in
+          record {
+            idle = subst (IsIdle p) (sym (moved.slept n r.0 new r.1 is down).rest) (idle-wheel p r.0 new.wheel told_idle);
+            empty = λ o i inside. ap (λ row. place_at row i) (moved.next_asleep n o down inside) ∙ was.empty o i inside;
+            silent = was.silent;
+          });
+    }
 
 -- an attachment's state after a cycle
 pub state-is : (p : Plan) (v : Driver) (t j : ℕ) (h : Host) (s : State) (state : List ℕ) → state_after p v t j (s h.tile) state ≡ next_state p h.domain v t s j state (Some h)

@@ -27,7 +27,8 @@ use Rattle.router_core.proofs.Start.{replicate-or}
 use Rattle.vc_partition.specs.Lanes.{lane}
 use Rattle.cycle_sim.specs.Links.{row_of, pulses_of}
 use Rattle.cycle_sim.specs.Net.{kept, Shows, IsQuiet, IsFresh, IsWhole, HasScratch}
-use Rattle.cycle_sim.proofs.Written.{same-read}
+use Rattle.cycle_sim.specs.Asleep.{is_awake, AreAsleep}
+use Rattle.cycle_sim.proofs.Written.{same-read, get-below}
 
 -- one thing more at the end of a list of which each has P
 pub each-push : {X : Type 0} (P : ℕ → X → Type 0) (xs : List X) (y : X) → ((m : ℕ) (x : X) → slice_get xs m ≡ Some x → P m x) → P (length xs) y
@@ -71,6 +72,24 @@ scratch p pulses outs is count links = record {
     get_or-replicate zero k x y less = absurd (omega (arith, less))
     get_or-replicate (suc n) zero x y less = refl
     get_or-replicate (suc n) (suc k) x y less = get_or-replicate n k x y (omega (arith, less))
+
+-- each tile is awake
+pub all-awake : (p : Plan) (routers : List Parts) (rows : List (List (Option LinkFlit))) (pulses : List (List (List (Option ℕ)))) (awake : List Bool)
+    → length routers ≡ tiles p → awake ≡ replicate (tiles p) true → AreAsleep p routers rows pulses awake
+all-awake p routers rows pulses awake count is = record {
+  count = ap length is ∙ length-replicate (tiles p) true;
+  each = λ n r at down.
+      (let there = get-below routers n r at in
+      absurd (unlike (sym (ap (λ xs. is_awake xs n) is ∙ up (tiles p) n (omega (arith, there, count))) ∙ down)));
+}
+  where
+    unlike : true ≡ false → ⊥
+    unlike e = cc e
+
+    up : (k n : ℕ) → n < k → is_awake (replicate k true) n ≡ true
+    up zero n less = absurd (omega (arith, less))
+    up (suc k) zero less = refl
+    up (suc k) (suc n) less = up k n (omega (arith, less))
 
 -- ---- routers
 

@@ -6,6 +6,9 @@ pub mod Numbers
 pub mod Ready
 pub mod Kept
 pub mod Written
+pub mod Waking
 pub mod Told
 pub mod Cycle
 pub mod Fresh
+pub mod Sleeping
+pub mod Phases

@@ -23,6 +23,13 @@ use Rattle.cycle_sim.specs.Links.{row_of, arrival_from, arrival_at, pulses_of, c
 pub number-below : (p : Plan) (m o : ℕ) → m < tiles p → o < ports p → m * ports p + o < tiles p * ports p
 number-below p m o inside below = rw (mul_comm (tiles p) (ports p)) (mul-add-lt m (ports p) o (tiles p) inside below)
 
+-- links with one number are one link
+pub same-link : (p : Plan) (m o n q : ℕ) → o < ports p → q < ports p → m * ports p + o ≡ n * ports p + q → (m ≡ n) × (o ≡ q)
+same-link p m o n q low low' e = (
+  sym (div-mul-add m (ports p) o low) ∙ ap (λ k. k / ports p) e ∙ div-mul-add n (ports p) q low',
+  sym (mod-mul-add m (ports p) o low) ∙ ap (λ k. k % ports p) e ∙ mod-mul-add n (ports p) q low',
+)
+
 -- the other end of a link is a tile, and the link comes to one of its ports
 pub link-ends : (p : Plan) (n port m : ℕ) → IsSound p → n < tiles p → neighbour p n port ≡ Some m → (m < tiles p) × (opposite port < ports p)
 link-ends p n port m sound inside e =
@@ -41,7 +48,7 @@ number-is p m o count back a b = ap (λ k. m * k + back) a ∙ ap (λ k. m * por
 abbrev nothing : Option LinkFlit
 nothing = None
 
-none-either : (b : Bool) → (if b then nothing else nothing) ≡ nothing
+pub none-either : (b : Bool) → (if b then nothing else nothing) ≡ nothing
 none-either true = refl
 none-either false = refl
 

@@ -2,3 +2,4 @@ pub mod Net
 pub mod Links
 pub mod TileCycle
 pub mod Attached
+pub mod Asleep

@@ -17,6 +17,7 @@ mod shift;
 #[cfg(test)]
 mod tests;
 mod tiles;
+mod wake;
 
 pub use cycles::run;
 pub use net::Net;

@@ -10,6 +10,8 @@ ghost use Rattle.noc_model.specs.Run.{State, start, step};
 ghost use Rattle.noc_model.specs.Driver.{driven, next_state};
 ghost use Rattle.credit_links.specs.Rows.{place_at};
 ghost use Rattle.tile_drive.specs.Seen.{seen_at};
+ghost use Rattle.router_core.specs.Shown.{Shows as ShowsTile};
+ghost use Rattle.router_core.specs.Sizes.{IsMade};
 ghost use Rattle.cycle_sim.specs.Attached.{seen_of};
 ghost use Rattle.cycle_sim.specs.Links.{row_of};
 ghost use Rattle.cycle_sim.specs.Net.{Shows};
@@ -19,6 +21,7 @@ use crate::pulses::keep_all;
 use crate::seeing::see_all;
 use crate::shift::shift_all;
 use crate::tiles::step_tiles;
+use crate::wake::{sleep_all, wake_hosts, wake_neighbours};
 use credit_links::Pipe;
 use noc_model::Plan;
 use router_core::{Router, RouterOut};
@@ -35,6 +38,8 @@ pub struct Net {
     routers: Vec<Router>,
     /// The registers of each link, by tile, then by the port that it leaves by.
     rows: Vec<Pipe>,
+    /// Whether each tile is awake: one that isn't has nothing to do, and a cycle leaves it out unless something comes.
+    awake: Vec<bool>,
     /// In a cycle, the credit pulses of the last one.
     pulses: Vec<Lanes<Option<u32>>>,
     /// In a cycle, what each tile sends.
@@ -47,11 +52,13 @@ impl Model for Net {
     ghost Value = { Kept };
 
     ghost use Rattle.cycle_sim.specs.Net.{kept, IsWhole, HasScratch};
+    ghost use Rattle.cycle_sim.specs.Asleep.{AreAsleep};
 
     ghost view = { λ a. kept a.plan a.cycle a.routers.items a.rows.items };
 
     ghost invariant = { λ a. IsWhole (kept a.plan a.cycle a.routers.items a.rows.items)
-        × HasScratch a.plan a.pulses.items a.outs.items };
+        × HasScratch a.plan a.pulses.items a.outs.items
+        × AreAsleep a.plan a.routers.items a.rows.items a.pulses.items a.awake.items };
 }
 
 impl Net {
@@ -68,6 +75,7 @@ impl Net {
         plan.known();
         let routers = routers_of(alloc, &plan)?;
         let rows = rows_of(alloc, &plan)?;
+        let awake = vec![in alloc; true; plan.tiles() as usize]?;
         let pulses = pulses_of(alloc, &plan)?;
         let outs = outs_of(alloc, &plan)?;
         Ok(Net {
@@ -75,6 +83,7 @@ impl Net {
             cycle: 0,
             routers,
             rows,
+            awake,
             pulses,
             outs,
         })
@@ -116,6 +125,16 @@ impl Net {
         &self.rows[(n * self.plan.ports() + port) as usize]
     }
 
+    /// The router of tile `n`, which shows each domain's state there.
+    pub fn router(&self, n: u32) -> &Router
+        requires { n < tiles self.now.plan }
+        ensures made { IsMade result.now self.now.plan }
+        ensures shows { (d : ℕ) (s : State) → Shows self.now d s → ShowsTile result.now self.now.plan d (s n) }
+    {
+        self.plan.known();
+        &self.routers[n as usize]
+    }
+
     /// One cycle: each domain's state goes on as if the domain were alone, the driver is notified of what was taken
     /// and got, and what was seen is kept. Takes no memory.
     pub fn step<D: Drive>(&mut self, drive: &mut D, seen: &mut Seen)
@@ -140,17 +159,35 @@ impl Net {
             (D.state drive.old j) }
     {
         self.plan.known();
-        see_all(&self.plan, self.cycle, &mut self.routers, drive, seen);
-        keep_all(&self.plan, &self.routers, &mut self.pulses);
+        keep_all(&self.plan, &self.awake, &self.routers, &mut self.pulses);
+        wake_neighbours(&self.plan, &self.rows, &self.pulses, &mut self.awake);
+        wake_hosts(&self.plan, self.cycle, drive, &mut self.awake);
+        see_all(
+            &self.plan,
+            self.cycle,
+            &self.awake,
+            &mut self.routers,
+            drive,
+            seen,
+        );
         step_tiles(
             &self.plan,
             self.cycle,
+            &self.awake,
             &self.rows,
             &self.pulses,
             &mut self.routers,
             &mut self.outs,
         );
-        shift_all(&self.plan, &self.outs, &mut self.rows);
+        shift_all(&self.plan, &self.awake, &self.outs, &mut self.rows);
+        sleep_all(
+            &self.plan,
+            self.cycle,
+            &self.routers,
+            &self.rows,
+            &self.pulses,
+            &mut self.awake,
+        );
         self.cycle += 1;
     }
 }

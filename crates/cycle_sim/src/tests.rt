@@ -108,6 +108,44 @@ fn both_domains_are_on_one_row(rt: HostRuntime) -> Result<(), Fail> {
     Ok(())
 }
 
+/// How many inputs of domain `d` are busy at a tile of two tiles in cycle 3, where each domain sent a word in cycle 0.
+fn busy_in_cycle_three(alloc: Global, tile: u32, d: u32) -> Result<u32, Fail> {
+    let plan = two_tiles(alloc)?;
+    let Ok(trace) = read_trace(alloc, &plan, b"0 0 a send 100 a\n0 0 b send 100 b\n") else {
+        return Ok(9);
+    };
+    let mut drive = TraceDrive::new(alloc, &plan, &trace)?;
+    let mut net = Net::new(alloc, plan)?;
+    let _events = run(alloc, &mut net, &mut drive, 3)?;
+    Ok(busy_at(&net, tile, d))
+}
+
+/// How many inputs of domain `d` are busy at a tile.
+fn busy_at(net: &Net, tile: u32, d: u32) -> u32 {
+    let plan = net.plan();
+    plan.known();
+    if tile >= plan.tiles() || d >= plan.domains() {
+        return 9;
+    }
+    let router = net.router(tile);
+    let mut count = 0;
+    for k in 0..plan.ports() * plan.link_channels(d) {
+        if router.busy(d, k) && count < 1000 {
+            count += 1;
+        }
+    }
+    count
+}
+
+#[test]
+fn a_waiting_word_keeps_one_input_busy(rt: HostRuntime) -> Result<(), Fail> {
+    let alloc = rt.alloc();
+    for (tile, d, busy) in [(0, 0, 1), (0, 1, 1), (1, 0, 0), (1, 1, 0)] {
+        assert_eq!(&rt; busy_in_cycle_three(alloc, tile, d)?, busy);
+    }
+    Ok(())
+}
+
 #[test]
 fn packets_go_round_and_meet(rt: HostRuntime) -> Result<(), Fail> {
     let alloc = rt.alloc();

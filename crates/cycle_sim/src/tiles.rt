@@ -1,11 +1,12 @@
 //! One cycle of the tiles.
 
-ghost use Rattle.std.specs.Prelude.{◌≡◌, ◌<◌, ◌*◌, ℕ, length, Some, slice_get};
+ghost use Rattle.std.specs.Prelude.{◌≡◌, ◌<◌, ◌*◌, ℕ, true, false, length, Some, slice_get};
 ghost use Rattle.noc_model.specs.Plan.{tiles, ports};
 ghost use Rattle.router_core.specs.declared.router.RouterOut.{RouterOut as Out};
 ghost use Rattle.router_core.specs.Parts.{Parts};
 ghost use Rattle.cycle_sim.specs.TileCycle.{AreAllPulses, MayStep, HasStepped};
 ghost use Rattle.cycle_sim.specs.Net.{IsRouterOf};
+ghost use Rattle.cycle_sim.specs.Asleep.{is_awake, HasSlept};
 
 use crate::links::{give_back, receive};
 use credit_links::Pipe;
@@ -40,15 +41,47 @@ fn step_tile(
     router.tick();
 }
 
-/// One cycle of all tiles. What each sends is put into `outs`.
+/// One cycle of a tile, if it is awake. Else only the owners of its links are those of the next cycle.
+fn step_or_sleep(
+    plan: &Plan,
+    tile: u32,
+    cycle: u32,
+    awake: bool,
+    rows: &[Pipe],
+    pulses: &[Lanes<Option<u32>>],
+    router: &mut Router,
+    out: &mut RouterOut,
+)
+    requires tile { tile < tiles plan.now }
+    requires rows { length rows.now ≡ tiles plan.now * ports plan.now }
+    requires pulses { AreAllPulses plan.now pulses.now }
+    requires router { IsRouterOf plan.now tile cycle router.old }
+    requires links { length out.old.links.items ≡ ports plan.now }
+    requires may { awake ≡ true → (d : ℕ) → d < length plan.now.domains
+        → MayStep plan.now d tile cycle rows.now pulses.now router.old }
+    ensures stepped { awake ≡ true
+        → HasStepped plan.now tile cycle rows.now pulses.now router.old router.new out.new.links.items }
+    ensures slept { awake ≡ false → HasSlept plan.now tile cycle router.old router.new }
+    ensures links { length out.new.links.items ≡ ports plan.now }
+{
+    if awake {
+        step_tile(plan, tile, cycle, rows, pulses, router, out);
+    } else {
+        router.tick();
+    }
+}
+
+/// One cycle of the tiles that are awake. What each sends is put into `outs`.
 pub(crate) fn step_tiles(
     plan: &Plan,
     cycle: u32,
+    awake: &[bool],
     rows: &[Pipe],
     pulses: &[Lanes<Option<u32>>],
     routers: &mut Vec<Router>,
     outs: &mut Vec<RouterOut>,
 )
+    requires awake { length awake.now ≡ tiles plan.now }
     requires rows { length rows.now ≡ tiles plan.now * ports plan.now }
     requires pulses { AreAllPulses plan.now pulses.now }
     requires routers { length routers.old.items ≡ tiles plan.now }
@@ -56,19 +89,26 @@ pub(crate) fn step_tiles(
     requires router { (n : ℕ) (r : Parts) → slice_get routers.old.items n ≡ Some r → IsRouterOf plan.now n cycle r }
     requires links { (n : ℕ) (out : Out) → slice_get outs.old.items n ≡ Some out
         → length out.links.items ≡ ports plan.now }
-    requires may { (n d : ℕ) (r : Parts) → slice_get routers.old.items n ≡ Some r → d < length plan.now.domains
-        → MayStep plan.now d n cycle rows.now pulses.now r }
+    requires may { (n d : ℕ) (r : Parts) → slice_get routers.old.items n ≡ Some r → is_awake awake.now n ≡ true
+        → d < length plan.now.domains → MayStep plan.now d n cycle rows.now pulses.now r }
     ensures routers { length routers.new.items ≡ tiles plan.now }
     ensures outs { length outs.new.items ≡ tiles plan.now }
     ensures stepped { (n : ℕ) (r new : Parts) (out : Out) → slice_get routers.old.items n ≡ Some r
         → slice_get routers.new.items n ≡ Some new → slice_get outs.new.items n ≡ Some out
+        → is_awake awake.now n ≡ true
         → HasStepped plan.now n cycle rows.now pulses.now r new out.links.items }
+    ensures slept { (n : ℕ) (r new : Parts) → slice_get routers.old.items n ≡ Some r
+        → slice_get routers.new.items n ≡ Some new → is_awake awake.now n ≡ false
+        → HasSlept plan.now n cycle r new }
+    ensures links { (n : ℕ) (out : Out) → slice_get outs.new.items n ≡ Some out
+        → length out.links.items ≡ ports plan.now }
 {
     for n in 0..plan.tiles() {
-        step_tile(
+        step_or_sleep(
             plan,
             n,
             cycle,
+            awake[n as usize],
             rows,
             pulses,
             &mut routers[n as usize],

@@ -17,3 +17,4 @@ pub mod Stepped
 pub mod Advanced
 pub mod Ticked
 pub mod Lawful
+pub mod Idle

@@ -11,3 +11,4 @@ pub mod Sends
 pub mod Crossing
 pub mod Ready
 pub mod Advance
+pub mod Idle

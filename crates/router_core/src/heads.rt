@@ -1,6 +1,7 @@
 //! The heads of a tile's packets: they get a route, and then a channel of their output.
 
-ghost use Rattle.std.specs.Prelude.{◌≡◌, ◌≢◌, ◌<◌, ◌*◌, ℕ, length, None};
+ghost use Rattle.std.specs.Prelude.{◌≡◌, ◌≢◌, ◌<◌, ◌*◌, ℕ, List, length, None};
+ghost use Rattle.noc_model.specs.declared.Flit.{Flit as FlitValue};
 ghost use Rattle.noc_model.specs.Plan.{tiles, ports};
 ghost use Rattle.noc_model.specs.Inputs.{input_count};
 ghost use Rattle.vc_partition.specs.Lanes.{lane};
@@ -9,6 +10,7 @@ ghost use Rattle.vc_alloc.specs.Allocator.{link_channels_at, best_at, committed,
 ghost use Rattle.vc_alloc.specs.Shown.{IsFor, GoesBelow, wanted_at};
 ghost use Rattle.vc_alloc.specs.Progress.{KnowsBelow};
 ghost use Rattle.router_core.specs.Heads.{front_of, headed, headed_to, given, FrontsGo, GivesBelow};
+ghost use Rattle.router_core.specs.Idle.{is_busy};
 ghost use Rattle.router_core.specs.Sizes.{HasBuffers, HasAllocator};
 
 use crate::buffers::Buffers;
@@ -17,6 +19,16 @@ use flit_word::Flit;
 use noc_model::Plan;
 use vc_alloc::VcAlloc;
 use vc_partition::{Lanes, Stage, channel_count, unpack};
+
+/// Whether an input that has so many flits, in this stage, is busy.
+pub(crate) fn is_busy(count: u32, stage: Stage) -> bool
+    ensures { (fs : List FlitValue) → length fs ≡ count → result ≡ is_busy fs stage }
+{
+    match stage {
+        Stage::Idle => count > 0,
+        Stage::Routed { .. } | Stage::Active { .. } => true,
+    }
+}
 
 /// The stage of an input at a tile, by the flit at its front: an idle channel is routed to the flit's output.
 fn headed(plan: &Plan, tile: u32, front: Option<Flit>, stage: Stage) -> Stage

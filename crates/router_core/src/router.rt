@@ -1,6 +1,6 @@
 //! The router of a tile.
 
-ghost use Rattle.std.specs.Prelude.{◌≡◌, ◌≢◌, ◌<◌, ◌+◌, ◌++◌, ◌∷◌, ◌↔◌, [], ℕ, List, length, map, replicate, slice_set, true, IsTrue, None, Some, pos, ◌-ℤ◌, IfSome, IfOk};
+ghost use Rattle.std.specs.Prelude.{◌≡◌, ◌≢◌, ◌<◌, ◌+◌, ◌++◌, ◌∷◌, ◌↔◌, [], ℕ, List, length, map, replicate, slice_set, true, false, IsTrue, None, Some, pos, ◌-ℤ◌, IfSome, IfOk};
 ghost use Rattle.std.specs.List.{range_with_len};
 ghost use Rattle.noc_model.specs.declared.Flit.{Flit as FlitValue};
 ghost use Rattle.noc_model.specs.declared.Stage.TheVariants.{Idle};
@@ -18,7 +18,8 @@ ghost use Rattle.route_stage.specs.Routed.{stage_at};
 ghost use Rattle.vc_alloc.specs.Allocator.{best_at, held_at};
 ghost use Rattle.slot_switch.specs.Switch.{ask_at, granted_in};
 ghost use Rattle.vc_alloc.specs.Shown.{GoesBelow};
-ghost use Rattle.router_core.specs.Buffers.{flits_at, with_flits};
+ghost use Rattle.router_core.specs.Buffers.{lists_at, flits_at, with_flits};
+ghost use Rattle.router_core.specs.Idle.{is_busy, IsIdleFor, IsIdle};
 ghost use Rattle.tile_iface.specs.Iface.{taken};
 ghost use Rattle.router_core.specs.Attachments.{attachment_at, told_at, outside};
 ghost use Rattle.router_core.specs.Attach.{entered, attached_parts, attached};
@@ -38,7 +39,7 @@ use crate::attachments::{
     Attachment, Told, attachment_after, nothing_told, start_attachments, taken,
 };
 use crate::buffers::Buffers;
-use crate::heads::{give_channels, route_heads, want_heads};
+use crate::heads::{give_channels, is_busy, route_heads, want_heads};
 use crate::sends::{
     ejecting, empty_links, finish, free, is_tail, lay, lift, pulse, spend, with_channel,
 };
@@ -485,6 +486,76 @@ impl Router {
         self.send_all(plan, d, links);
     }
 
+    /// Whether the input of domain `d` at place `i` is busy: it has a flit, or its packet hasn't gone yet. An input that
+    /// isn't busy, and to which nothing comes, stays as it is.
+    pub fn busy(&self, d: u32, i: u32) -> bool
+        requires domain { d < length self.now.buffers }
+        requires place { i < length (lists_at self.now.buffers d).lists }
+        requires stages { d < length self.now.stages }
+        requires stage { i < length (lane self.now.stages d) }
+        ensures value { result ≡ is_busy (flits_at self.now.buffers d i) (stage_at self.now.stages d i) }
+        ensures shows { (p : PlanValue) (s : Tile) → Shows self.now p d s → i < input_count p d
+            → result ≡ is_busy (s.queue (input_port p d i) (input_channel p d i))
+            (s.stage (input_port p d i) (input_channel p d i)) }
+    {
+        is_busy(self.buffers.len(d, i), *self.stages.at(d, i))
+    }
+
+    /// Whether none of the inputs of domain `d` is busy.
+    fn is_empty(&self, plan: &Plan, d: u32) -> bool
+        requires made { IsMade self.now plan.now }
+        requires domain { d < length plan.now.domains }
+        ensures { IsTrue result ↔ ((k : ℕ) → k < input_count plan.now d
+            → is_busy (flits_at self.now.buffers d k) (stage_at self.now.stages d k) ≡ false) }
+    {
+        for k in 0..plan.ports() * plan.link_channels(d) {
+            if self.busy(d, k) {
+                return false;
+            }
+        }
+        true
+    }
+
+    /// Whether no flit of domain `d` left an input in the last cycle.
+    fn is_silent(&self, plan: &Plan, d: u32) -> bool
+        requires made { IsMade self.now plan.now }
+        requires domain { d < length plan.now.domains }
+        ensures { IsTrue result ↔ ((port : ℕ) → port < ports plan.now → pulse_at self.now.pulses d port ≡ None) }
+    {
+        for port in 0..plan.ports() {
+            if self.pulse(d, port).is_some() {
+                return false;
+            }
+        }
+        true
+    }
+
+    /// Whether domain `d` has nothing to do: a cycle in which nothing comes changes nothing of it.
+    fn is_idle_for(&self, plan: &Plan, d: u32) -> bool
+        requires made { IsMade self.now plan.now }
+        requires domain { d < length plan.now.domains }
+        ensures { IsTrue result ↔ IsIdleFor plan.now self.now d }
+    {
+        let attachment = self.attachments[d as usize];
+        self.is_empty(plan, d)
+            && self.is_silent(plan, d)
+            && attachment.ejected.is_none()
+            && !attachment.dropped
+    }
+
+    /// Whether no domain has anything to do.
+    pub fn is_idle(&self, plan: &Plan) -> bool
+        requires { IsMade self.now plan.now }
+        ensures { IsTrue result ↔ IsIdle plan.now self.now }
+    {
+        for d in 0..plan.domains() {
+            if !self.is_idle_for(plan, d) {
+                return false;
+            }
+        }
+        true
+    }
+
     /// The channel that a flit of domain `d` left in the last cycle, by an input port: a credit goes back for it.
     pub fn pulse(&self, d: u32, port: u32) -> Option<u32>
         requires domain { d < length self.now.pulses }
@@ -561,6 +632,41 @@ impl Router {
     {
         empty_links(links);
         for d in 0..plan.domains() {
+            self.advance_or_rest(plan, d, links);
+        }
+    }
+
+    /// One cycle of domain `d`, as in `advance_domain`. It is left out where the domain has nothing to do and is offered
+    /// no word: nothing would change.
+    fn advance_or_rest(&mut self, plan: &Plan, d: u32, links: &mut [Option<LinkFlit>])
+        requires made { IsMade self.old plan.now }
+        requires domain { d < length plan.now.domains }
+        requires ready { IsReady plan.now d self.old }
+        requires quiet { (o : ℕ) → best_at self.old.allocator o ≡ None }
+        requires links { length links.old ≡ ports plan.now }
+        ensures rest { self.new ≡ record self.old {
+          buffers = self.new.buffers;
+          stages = self.new.stages;
+          pulses = self.new.pulses;
+          allocator = self.new.allocator;
+          switch = self.new.switch;
+          credits = self.new.credits;
+          attachments = self.new.attachments;
+        } }
+        ensures own { (s : Tile) (t : ℕ) → Shows self.old plan.now d s → Stands self.old.wheel plan.now self.old.tile t
+            → Shows self.new plan.now d
+            (tile_step plan.now d self.old.tile (pos t) s (outside (told_at self.old.told d))) }
+        ensures sent { (s : Tile) (t o : ℕ) → Shows self.old plan.now d s
+            → Stands self.old.wheel plan.now self.old.tile t → o ≢ 0 → o < ports plan.now → laid_at links.new o
+            ≡ laid (sent plan.now d self.old.tile (pos t) s (outside (told_at self.old.told d)) o)
+            (laid_at links.old o) }
+        ensures others { (e : ℕ) (s : Tile) → e ≢ d → Shows self.old plan.now e s → Shows self.new plan.now e s }
+        ensures made { IsMade self.new plan.now }
+        ensures quiet { (o : ℕ) → best_at self.new.allocator o ≡ None }
+        ensures pulses { ArePulses plan.now self.old.pulses → ArePulses plan.now self.new.pulses }
+        ensures links { length links.new ≡ length links.old }
+    {
+        if self.told[d as usize].offer.is_some() || !self.is_idle_for(plan, d) {
             self.advance_domain(plan, d, links);
         }
     }
