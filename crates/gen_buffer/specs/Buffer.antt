@@ -3,7 +3,7 @@ use Rattle.std.specs.Prelude.{◌≡◌, ℕ, ◌-◌, ◌≤◌, Bool, true, fa
 use Rattle.vl_tree.specs.Values.{Name, Item}
 use Rattle.vl_model.specs.Meaning.{Values, one_if}
 use Rattle.vl_model.specs.Parts.{AllReset, Gives, Keeps}
-use Rattle.gen_kit.specs.Work.{own_name_of}
+use Rattle.gen_kit.specs.OwnNames.{own_name_of}
 use Rattle.gen_buffer.specs.declared.BufferSpec.{BufferSpec}
 use Rattle.gen_buffer.specs.declared.BufferNets.{BufferNets}
 use Rattle.gen_buffer.specs.Fifo.{FifoNames, fifo_items, IsList, next_list, MayMove}

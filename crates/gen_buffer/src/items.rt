@@ -3,7 +3,8 @@
 ghost use Rattle.std.specs.Prelude.{◌≡◌, ◌<◌, ◌≤◌, ◌+◌, ◌-◌, ◌^◌, ◌∷◌, [], OnOk, IfOk};
 ghost use Rattle.vl_tree.specs.Read.{read, read_leaf};
 ghost use Rattle.vl_model.specs.Laws.{with_items};
-ghost use Rattle.gen_kit.specs.Work.{own_name_of, with_item};
+ghost use Rattle.gen_kit.specs.OwnNames.{own_name_of};
+ghost use Rattle.gen_kit.specs.Work.{with_item};
 ghost use Rattle.gen_buffer.specs.Fifo.{FifoNames, clocked_from_zero, steps_by, one_more, one_less, next_count, fifo_heads, fifo_nets, fifo_moves};
 ghost use Rattle.gen_buffer.specs.Sizes as sizes;
 ghost use Rattle.gen_buffer.specs.Buffer.{fifo_names, nets_of, buffer_items};

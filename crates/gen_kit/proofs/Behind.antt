@@ -1,11 +1,11 @@
 -- Lists that begin with another.
-use Rattle.std.proofs.Common.{◌≡◌, ◌≢◌, ℕ, ◌+◌, ◌-◌, ◌<◌, ◌≤◌, Bool, true, false, List, [], ◌∷◌, ◌++◌, length, take, drop, refl, sym, ◌∙◌, ap, subst, arith, zero, suc, add-one, ◌↔◌, take-append-drop, bytes_eq, length-append}
+use Rattle.std.proofs.Common.{◌≡◌, ◌≢◌, ℕ, ◌+◌, ◌-◌, ◌<◌, ◌≤◌, Bool, true, false, List, [], ◌∷◌, ◌++◌, length, take, drop, refl, sym, ◌∙◌, ap, arith, zero, suc, add-one, take-append-drop, bytes_eq, length-append}
 use Rattle.std.proofs.lemmas.Bool.Decides.{nat_tests}
 use Rattle.std.specs.Prelude.{◌==◌, Some, None, slice_get, if◌then◌else◌}
 use Rattle.vl_tree.specs.declared.tree.Port.{Port}
 use Rattle.gen_kit.specs.Ports.{difference}
 use Rattle.gen_kit.specs.PortSpec.{same_at}
-use Rattle.std.proofs.lemmas.List.{take_at, append_assoc, append-nil, append_cancel_left, take_rest, drop_all, length-drop}
+use Rattle.std.proofs.lemmas.List.{take_at, append_cancel_left, take_rest, drop_all, length-drop}
 use Rattle.std.proofs.lemmas.Slice.Eq.{bytes_eq-Decides}
 use Rattle.std.proofs.lemmas.Bool.{both_ways}
 

@@ -8,3 +8,5 @@ pub mod Sets
 pub mod Families
 pub mod Muxed
 pub mod Rotated
+pub mod Plainly
+pub mod Spelled

@@ -4,6 +4,7 @@ pub mod Shape
 pub mod Replayed
 pub mod Right
 pub mod Builders
+pub mod OwnNames
 pub mod Work
 pub mod Masks
 pub mod Families

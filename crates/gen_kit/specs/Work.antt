@@ -1,5 +1,5 @@
 -- A leaf that is being written.
-use Rattle.std.specs.Prelude.{◌++◌, List, codes, decimal, [], ◌∷◌, ℕ}
+use Rattle.std.specs.Prelude.{◌++◌, codes, [], ◌∷◌, ℕ}
 use Rattle.vl_tree.specs.declared.tree.Port.{Port}
 use Rattle.vl_tree.specs.Values.{Name, Item, Leaf}
 use Rattle.gen_kit.specs.Ports.{name_with}
@@ -7,10 +7,6 @@ use Rattle.gen_kit.specs.Ports.{name_with}
 -- the name of the tile's leaf
 abbrev pub leaf_name : ℕ → Name
 leaf_name n = name_with (codes "router") (n ∷ [])
-
--- a name of the generated part: k, the part's tag, and then for each number an underscore and its digits
-abbrev pub own_name_of : ℕ → List ℕ → Name
-own_name_of tag ns = name_with (codes "k" ++ decimal tag) ns
 
 -- the leaf of the tile before it has a port or an item
 abbrev pub empty_leaf : ℕ → Leaf

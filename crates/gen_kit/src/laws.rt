@@ -1,6 +1,6 @@
 //! Laws over the definitions.
 
-ghost use Rattle.gen_kit.specs.Laws.{RotateShown, RotateKept, RotateStarts, MuxShown, TableShown};
+ghost use Rattle.gen_kit.specs.Laws.{RotateShown, RotateKept, RotateStarts, MuxShown, TableShown, OwnNamesApart, OwnNamesFit, OwnNamesAreNoPorts};
 
 /// The nets of a round-robin choice show what is picked.
 pub fn rotate_shown()
@@ -25,4 +25,12 @@ pub fn mux_shown()
 /// A table by the bits of a net is the function.
 pub fn table_shown()
     ensures { TableShown }
+{}
+
+/// A leaf's own names of two tags, or of two numbers, differ; they are names, and their second byte is no letter, as a
+/// port's is.
+pub fn own_names()
+    ensures apart { OwnNamesApart }
+    ensures fit { OwnNamesFit }
+    ensures no_ports { OwnNamesAreNoPorts }
 {}

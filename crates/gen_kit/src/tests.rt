@@ -17,10 +17,22 @@ fn numbers_follow_the_front(rt: HostRuntime) -> Result<(), Fail> {
     ] {
         assert_eq!(rt; name_of(rt.alloc(), head, numbers)?.as_slice(), name);
     }
-    assert_eq!(rt;
-        own_name(rt.alloc(), 1024, &[3])?.as_slice(),
-        b"k1024_3".as_slice()
-    );
+    Ok(())
+}
+
+#[test]
+fn own_names_say_stage_domain_and_port(rt: HostRuntime) -> Result<(), Fail> {
+    for (tag, number, name) in [
+        (2048, 0, b"A0_".as_slice()),
+        (2048 + 128 + 8 + 4, 3, b"b8_3"),
+        (2048 + 128 * 15 + 8 * 13 + 6, 10, b"n61_10"),
+        (5120 + 64 * 3 + 8 * 5, 5, b"v1_5"),
+        (64 * 2 + 8 * 7, 4, b"Y15_4"),
+        (1024 + 6, 0, b"Z6_"),
+        (4608 + 2, 1, b"z514_1"),
+    ] {
+        assert_eq!(rt; own_name(rt.alloc(), tag, &[number])?.as_slice(), name);
+    }
     Ok(())
 }
 

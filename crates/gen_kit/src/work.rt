@@ -5,7 +5,7 @@ ghost use Rattle.vl_tree.specs.Read.{read, read_item, read_leaf};
 ghost use Rattle.vl_model.specs.Laws.{with_items};
 ghost use Rattle.gen_kit.specs.Families.{defined};
 ghost use Rattle.gen_kit.specs.Ports.{name_with};
-ghost use Rattle.gen_kit.specs.Work.{own_name_of, empty_leaf, with_port, with_item};
+ghost use Rattle.gen_kit.specs.Work.{empty_leaf, with_port, with_item};
 
 use std::alloc::{AllocError, Global};
 use surf_base::{Seq, decimal};
@@ -20,13 +20,19 @@ fn push_bytes(name: &mut Name, bytes: &[u8]) -> Result<(), AllocError>
     Ok(())
 }
 
+pub(crate) fn push_digits(name: &mut Name, number: u32) -> Result<(), AllocError>
+    ensures { OnOk result (name.new ≡ name.old ++ decimal number) }
+{
+    let mut digits = [0; 20];
+    let count = decimal(number as u64, &mut digits);
+    push_bytes(name, &digits[..count])
+}
+
 fn push_number(name: &mut Name, number: u32) -> Result<(), AllocError>
     ensures { OnOk result (name.new ≡ name.old ++ (95 ∷ decimal number)) }
 {
     name.push(b'_')?;
-    let mut digits = [0; 20];
-    let count = decimal(number as u64, &mut digits);
-    push_bytes(name, &digits[..count])
+    push_digits(name, number)
 }
 
 /// The name that begins with `head` and goes on, for each of the numbers, with an underscore and its decimal digits.
@@ -42,22 +48,6 @@ pub fn name_of(alloc: Global, head: &[u8], numbers: &[u32]) -> Result<Name, Allo
         push_number(&mut name, *number)?;
     }
     Ok(name)
-}
-
-/// A name of the generated part `tag`: it begins with `k` and the tag, and each number comes after an underscore,
-/// so that no two parts share one.
-///
-/// # Errors
-///
-/// Memory ran out.
-pub fn own_name(alloc: Global, tag: u32, numbers: &[u32]) -> Result<Name, AllocError>
-    ensures { IfOk result (λ n. n ≡ own_name_of tag numbers.now) }
-{
-    let mut head = Seq::from_slice(alloc, b"k")?;
-    let mut digits = [0; 20];
-    let count = decimal(tag as u64, &mut digits);
-    push_bytes(&mut head, &digits[..count])?;
-    name_of(alloc, head.as_slice(), numbers)
 }
 
 /// A leaf that is being written.

@@ -8,9 +8,8 @@ use Rattle.flit_word.specs.Words.{dest_bits}
 use Rattle.gen_kit.specs.Groups.{Group}
 use Rattle.noc_model.specs.Plan.{Plan}
 use Rattle.leaf_tie.specs.Counts.{idle_group}
-use Rattle.leaf_tie.specs.Glue.{high, switch_names, switch_size, filled_group, tails_group, ends_group}
+use Rattle.leaf_tie.specs.Glue.{high, switch_part, filled_group, tails_group, ends_group}
 use Rattle.leaf_tie.specs.Names.{leaf_names, net_names}
-use Rattle.leaf_tie.specs.Switch.{switch_group}
 use Rattle.gen_router.specs.Ordered.{its_outputs, its_groups}
 use Rattle.gen_router.specs.Given.{first_groups, last_groups}
 use Rattle.leaf_tie.specs.Whole.{each_group}
@@ -53,5 +52,5 @@ part_else part b gs hs l a e is = is ∙ sym (ap (λ (t : Bool). with_items l (a
 pub groups_whole : (p : Plan) (n d : ℕ) → first_groups p n d ++ last_groups p n d ≡ its_groups p n d
 groups_whole p n d =
     ap (λ gs. filled_group p n leaf_names net_names d ∷ tails_group p n leaf_names net_names (dest_bits p) d ∷ gs)
-    (append_assoc (its_outputs p n d) (switch_group (switch_names leaf_names net_names d) (switch_size p d)
+    (append_assoc (its_outputs p n d) (switch_part p n leaf_names net_names d
     ∷ ends_group p net_names d ∷ idle_group (leaf_names.idle d) (net_names.filled d) (net_names.ends d) (high p d) ∷ []) (last_groups p n d))

@@ -16,11 +16,10 @@ use flit_word::{channel_bits, flit_bits};
 use gen_kit::{LeafWork, name_of};
 use leaf_glue::{
     arrival, arriving_slot, eject, ends, filled, flit, freed, has_link, has_port, leaving_slot,
-    led, link_buffer, local_buffer, on_channel, pulse, readies, tails, unready, word,
+    led, link_buffer, local_buffer, on_channel, pulse, readies, switch_part, tails, unready, word,
 };
 use leaf_parts::{
-    Phase, allocation, attachment, count_high, credits, domain_switch, idle_places, leaving_link,
-    slot_counter,
+    Phase, allocation, attachment, count_high, credits, idle_places, leaving_link, slot_counter,
 };
 use noc_model::Plan;
 use std::alloc::{AllocError, Global};
@@ -554,7 +553,7 @@ fn first_groups(
     filled(alloc, phase, plan, tile, domain, work)?;
     tails(alloc, phase, plan, tile, domain, work)?;
     all_outputs(alloc, phase, plan, tile, domain, work)?;
-    domain_switch(alloc, phase, plan, domain, work)?;
+    switch_part(alloc, phase, plan, tile, domain, work)?;
     ends(alloc, phase, plan, domain, work)?;
     idle_places(alloc, phase, plan, domain, work)?;
     Ok(())

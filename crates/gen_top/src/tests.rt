@@ -1,9 +1,11 @@
-//! The design of a small plan, and its text.
+//! The design of a small plan, and its text, which is read back.
 
 use crate::{design_of, text_of};
 use std::test::Fail;
+use vl_read::read_design;
+use vl_text::write_design;
 use vl_tree::TopItem;
-use worked_plans::{one_tile, two_tiles};
+use worked_plans::{cube, one_tile, split_domains, two_tiles, weighted_slots};
 
 #[test]
 fn two_tiles_are_joined_by_two_links(rt: HostRuntime) -> Result<(), Fail> {
@@ -26,5 +28,29 @@ fn two_tiles_are_joined_by_two_links(rt: HostRuntime) -> Result<(), Fail> {
 fn a_text_begins_with_the_first_router(rt: HostRuntime) -> Result<(), Fail> {
     let text = text_of(rt.alloc(), &one_tile(rt.alloc())?)?;
     assert!(rt; text.as_slice().starts_with(b"module router_0"));
+    Ok(())
+}
+
+/// What is read of a text is written with the same bytes, so it is the design that was written.
+#[test]
+fn each_leaf_is_read_back(rt: HostRuntime) -> Result<(), Fail> {
+    let alloc = rt.alloc();
+    for plan in [
+        one_tile(alloc)?,
+        split_domains(alloc)?,
+        weighted_slots(alloc)?,
+        cube(alloc)?,
+    ] {
+        let text = text_of(alloc, &plan)?;
+        match read_design(alloc, text.as_slice()) {
+            Ok(design) => {
+                assert_eq!(rt; design.leaves.len(), plan.tiles() as usize);
+                assert!(rt; design.plain());
+                let again = write_design(alloc, &design)?;
+                assert!(rt; again.as_slice() == text.as_slice());
+            }
+            Err(_) => assert!(rt; false),
+        }
+    }
     Ok(())
 }

@@ -1,3 +1,4 @@
 pub mod Marks
 pub mod Sent
 pub mod Filled
+pub mod Lone

@@ -5,7 +5,7 @@ use Rattle.flit_word.specs.Words.{dest_bits, channel_bits}
 use Rattle.gen_kit.specs.Families.{in_bits}
 use Rattle.gen_kit.specs.Mux.{gated_words}
 use Rattle.noc_model.specs.Plan.{Plan}
-use Rattle.leaf_tie.specs.Glue.{high, able, some_active, port_flit}
+use Rattle.leaf_tie.specs.Glue.{high, able, some_active, port_flit, leaves_place}
 use Rattle.leaf_tie.specs.Names.{leaf_names, net_names, port_names, leaf_sizes}
 
 -- the places that are active on a channel for which the output takes a flit
@@ -19,7 +19,7 @@ ends_at_channel p d o k = some_active p leaf_names d o (net_names.ends d) k
 
 -- the flit at the front of a channel, where it leaves
 abbrev pub gated_front : Plan → ℕ → ℕ → ℕ → Expr
-gated_front p d port c = gated_words (34 + dest_bits p) (λ k. bit (net_names.granted d port) k)
+gated_front p d port c = gated_words (34 + dest_bits p) (leaves_place p net_names d port)
     (λ k. part (leaf_names.buffer d port k).front (33 + dest_bits p) 0) c
 
 -- the flit of an input port, where the output's choice is the port

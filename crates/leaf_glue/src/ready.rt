@@ -124,7 +124,7 @@ pub fn readies(
     }
 }
 
-/// Writes a part of the group of an output that is not there.
+/// Writes a part of the group of an output that is not there: with one channel at each port it has none.
 ///
 /// # Errors
 ///
@@ -144,6 +144,9 @@ pub fn unready(
 {
     match phase {
         Phase::Nets => {
+            if plan.link_channels(domain) == 1 {
+                return Ok(());
+            }
             let high = high(plan, domain);
             let name = net_name(alloc, plan, domain, 1, out, 10)?;
             work.define(alloc, high, &name, number(high + 1, 0))

@@ -182,10 +182,11 @@ fn gated_front(
 {
     plan.known();
     let bits = dest_bits(plan);
-    let granted = net_name(alloc, plan, domain, 6, port, 0)?;
+    let place = port * plan.link_channels(domain) + channel;
+    let leaves = net_name(alloc, plan, domain, 7, 0, 0)?;
     let front = own_name(alloc, buffer_tag(plan, domain, port, channel), &[4])?;
     let word = part(alloc, &front, 33 + bits, 0)?;
-    gated(alloc, 34 + bits, bit(alloc, &granted, channel)?, word)
+    gated(alloc, 34 + bits, bit(alloc, &leaves, place)?, word)
 }
 
 fn leaving_flit(alloc: Global, plan: &Plan, domain: u32, port: u32) -> Result<Expr, AllocError>
@@ -476,14 +477,17 @@ pub fn pulse(
     ensures { OnOk result (read_leaf work.new.leaf ≡ with_items (read_leaf work.old.leaf) (items_of phase
         (pulse_group plan.now leaf_names net_names domain port))) }
 {
+    plan.known();
     let high = plan.link_channels(domain) - 1;
     let pulse = register_name(alloc, plan, domain, 4, port, 8)?;
     match phase {
         Phase::Heads => register(alloc, work, high, &pulse),
         Phase::Nets => Ok(()),
         Phase::Moves => {
-            let granted = net(alloc, &net_name(alloc, plan, domain, 6, port, 0)?)?;
-            clock_zero(alloc, work, high, &pulse, granted)
+            let leaves = net_name(alloc, plan, domain, 7, 0, 0)?;
+            let first = port * (high + 1);
+            let these = part(alloc, &leaves, first + high, first)?;
+            clock_zero(alloc, work, high, &pulse, these)
         }
     }
 }

@@ -5,7 +5,7 @@ ghost use Rattle.vl_tree.specs.Read.{read, read_leaf};
 ghost use Rattle.vl_model.specs.Laws.{with_items};
 ghost use Rattle.noc_model.specs.Plan.{tiles, channels};
 ghost use Rattle.flit_word.specs.Words.{dest_bits};
-ghost use Rattle.leaf_tie.specs.Attach.{in_range, looked, reach, room_expr, next_channel, entry_word};
+ghost use Rattle.leaf_tie.specs.Attach.{in_range, not_above, not_below, looked, reach, room_expr, next_channel, entry_word};
 ghost use Rattle.leaf_tie.specs.Names.{port_names};
 ghost use Rattle.leaf_parts.specs.Phases.{items_of};
 ghost use Rattle.leaf_parts.specs.Entries.{its_names, its_size, entry_group, range_nets, has_room, range_choice, look_net, packet_heads, entry_heads, found_net, taken_net, goes_net, to_net, enters_nets, passing_move, dropping_move, dest_move, current_move, drop_move};
@@ -22,15 +22,39 @@ use sqlite_items::Items;
 use std::alloc::{AllocError, Global};
 use vl_tree::{Const, Expr, LeafItem, Name, Op};
 
+// Whether an address is not below the first of a range.
+fn not_below(alloc: Global, address: &Name, range: Range) -> Result<Expr, AllocError>
+    ensures { IfOk result (λ e. read e ≡ not_below address.now range) }
+{
+    let first = number(32, range.first as u64);
+    not(alloc, two(alloc, Op::Less, net(alloc, address)?, first)?)
+}
+
+// Whether an address is not above the last of a range.
+fn not_above(alloc: Global, address: &Name, range: Range) -> Result<Expr, AllocError>
+    ensures { IfOk result (λ e. read e ≡ not_above address.now range) }
+{
+    let last = number(32, range.last as u64);
+    if range.last == u32::MAX {
+        let below = two(alloc, Op::Less, net(alloc, address)?, last)?;
+        let last = number(32, range.last as u64);
+        let same = two(alloc, Op::Equal, net(alloc, address)?, last)?;
+        two(alloc, Op::Or, below, same)
+    } else {
+        not(alloc, two(alloc, Op::Less, last, net(alloc, address)?)?)
+    }
+}
+
 // Whether an address is in a range.
 fn in_range(alloc: Global, address: &Name, range: Range) -> Result<Expr, AllocError>
     ensures { IfOk result (λ e. read e ≡ in_range address.now range) }
 {
-    let first = number(32, range.first as u64);
-    let below = two(alloc, Op::Less, net(alloc, address)?, first)?;
-    let last = number(32, range.last as u64);
-    let behind = two(alloc, Op::Less, last, net(alloc, address)?)?;
-    two(alloc, Op::And, not(alloc, below)?, not(alloc, behind)?)
+    if range.first == 0 {
+        not_above(alloc, address, range)
+    } else {
+        let begun = not_below(alloc, address, range)?;
+        two(alloc, Op::And, begun, not_above(alloc, address, range)?)
+    }
 }
 
 // What an address finds among the last `count` ranges.

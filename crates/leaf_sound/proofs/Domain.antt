@@ -13,30 +13,30 @@ use Rattle.noc_model.specs.Plan.{classes, Plan, tiles, ports, hosts, channels, l
 use Rattle.noc_model.specs.Place.{neighbour}
 use Rattle.noc_model.specs.Sound.{IsSound}
 use Rattle.flit_word.specs.Words.{dest_bits, channel_bits, flit_bits, max_channels, max_link_channels}
-use Rattle.gen_kit.specs.Families.{for_each, or_upto, row_parts, defined}
+use Rattle.gen_kit.specs.Families.{for_each, or_upto, row_parts, defined, in_bits}
 use Rattle.gen_kit.specs.Groups.{Group}
 use Rattle.gen_kit.specs.Rotate.{rotate_group}
-use Rattle.leaf_tie.specs.Alloc.{alloc_group, class_nets, taken_nets, asks_class, out_count}
-use Rattle.leaf_tie.specs.Switch.{switch_group, port_nets, output_nets, grant_nets, place_count}
+use Rattle.leaf_tie.specs.Alloc.{alloc_group, has_one, lone_requests, class_requests, class_nets, taken_nets, asks_class, out_count}
+use Rattle.leaf_tie.specs.Switch.{switch_group, lone_switch_group, lone_choice, lone_heads, lone_nets, port_nets, output_nets, grant_nets, place_count}
 use Rattle.leaf_tie.specs.Buffers.{buffer_group}
 use Rattle.leaf_tie.specs.Counts.{idle_group, credit_group}
 use Rattle.leaf_tie.specs.Attach.{attach_group, enter_at, look_nets, looked, room_expr, entry_word, reach}
-use Rattle.leaf_tie.specs.Tie.{HasLink, alloc_size}
-use Rattle.leaf_tie.specs.Glue.{switch_names, switch_size, attach_names, attach_size, current_high, high, out_high, has_port, filled_group, tails_group, led_group, ends_group, ready_group, unready_group, on_group, freed_group, flit_group, word_group, eject_group, pulse_group, link_push, pop_of}
+use Rattle.leaf_tie.specs.Tie.{HasLink, alloc_size, is_lone}
+use Rattle.leaf_tie.specs.Glue.{switch_names, switch_size, switch_part, attach_names, attach_size, current_high, high, out_high, has_port, filled_group, tails_group, led_group, ends_group, ready_group, unready_group, on_group, freed_group, flit_group, word_group, eject_group, pulse_group, link_push, pop_of}
 use Rattle.leaf_tie.specs.Whole.{each_group, channel_groups, local_groups, domain_groups}
 use Rattle.leaf_tie.specs.Names.{own, buffer_tag, net_tag, register_tag, leaf_names, net_names, port_names, credit_base, leaf_sizes, slot_high, inner_groups}
 use Rattle.leaf_tie.proofs.Members.{Member, in-back}
 use Rattle.leaf_tie.proofs.Grouped.{in-domain, before, unready-member, middle, behind, sent, channel, linked-member, local, entered-member}
-use Rattle.leaf_tie.proofs.Glued.{port-has}
-use Rattle.leaf_tie.proofs.Sized.{place_count-is, out-link}
+use Rattle.leaf_tie.proofs.Sized.{place_count-is, out-link, port-has}
 use Rattle.leaf_sound.proofs.Keyed.{rank}
-use Rattle.leaf_sound.proofs.Ranked.{at, net-rank, no-local, front-rank, empty-rank}
+use Rattle.leaf_sound.proofs.Ranked.{at, net-rank, front-rank, empty-rank}
 use Rattle.leaf_sound.proofs.Bits.{bits-few, index-few, count-few}
 use Rattle.leaf_sound.proofs.Inner.{few-classes, few-channels, few-links, few-ports, few-ranges}
 use Rattle.leaf_sound.proofs.Typed.{Net, Is, net-is}
 use Rattle.leaf_sound.proofs.Walk.{May}
 use Rattle.leaf_sound.proofs.Plainly.{own-plain}
 use Rattle.leaf_sound.proofs.Facts.{ItemFound, lines, heads-of, nets-of, each-has, port-is}
+use Rattle.std.proofs.lemmas.Bool.Decides.{nat_tests}
 use Rattle.std.proofs.lemmas.Nat.{mul-le}
 
 -- ---- a wire with its rank, a register
@@ -197,13 +197,6 @@ module _ (p : Plan) (n : ℕ) (sound : IsSound p) (inside : n < tiles p) where
       pub active : (w : ℕ) → w < out_count (alloc_size p d o) → Net ls Register ((leaf_names.alloc d o).active w) (high p d)
       active w less = reg-of 0 o (3 + w) (high p d) (each-has (ItemFound ls) (out_count (alloc_size p d o)) (λ w. reg (high p d) ((leaf_names.alloc d o).active w) ∷ []) w less alloc-heads.1.1.1).0 few-high (omega arith) (few-o o low) (let few = (few-outs o).1 in omega (arith, few, less))
 
-      class-has : (k : ℕ) → k < (alloc_size p d o).last + 1 → AllByRecursion (ItemFound ls) (class_nets (leaf_names.alloc d o) (alloc_size p d o) k)
-      class-has k less = each-has (ItemFound ls) ((alloc_size p d o).last + 1) (class_nets (leaf_names.alloc d o) (alloc_size p d o)) k less (all-front (ItemFound ls) (for_each ((alloc_size p d o).last + 1) (class_nets (leaf_names.alloc d o) (alloc_size p d o))) _ alloc-nets)
-
-      after-classes : AllByRecursion (ItemFound ls) (wire (high p d) (leaf_names.alloc d o).choice.request ∷ assign (leaf_names.alloc d o).choice.request (or_upto (alloc_size p d o).last (asks_class p d n o (leaf_names.alloc d o) (alloc_size p d o)))
-          ∷ ((rotate_group (leaf_names.alloc d o).choice (high p d)).nets ++ for_each ((alloc_size p d o).last + 1) (taken_nets p d n o (leaf_names.alloc d o) (alloc_size p d o))))
-      after-classes = all-back (ItemFound ls) (for_each ((alloc_size p d o).last + 1) (class_nets (leaf_names.alloc d o) (alloc_size p d o))) _ alloc-nets
-
       pub few-last : (alloc_size p d o).last ≤ 1
       few-last = go o
         where
@@ -218,25 +211,58 @@ module _ (p : Plan) (n : ℕ) (sound : IsSound p) (inside : n < tiles p) where
           go zero = omega arith
           go (suc o) = let few = (few-channels p d sound there).1 in omega (arith, few)
 
-      pub free : (k : ℕ) → k < (alloc_size p d o).last + 1 → Wire ls ((leaf_names.alloc d o).free k) (alloc_size p d o).size (at d 1 o + (1 + 2 * k) + 1)
-      free k less = let few = few-last in let small = few-size in wire-of 1 o (1 + 2 * k) (alloc_size p d o).size (class-has k less).0 (omega (arith, small)) (omega arith) (few-o o low) (omega (arith, few, less))
+      after-classes : AllByRecursion (ItemFound ls) (class_requests p d n o (leaf_names.alloc d o)
+          (alloc_size p d o)) → AllByRecursion (ItemFound ls) (wire (high p d)
+          (leaf_names.alloc d o).choice.request ∷ assign (leaf_names.alloc d o).choice.request (or_upto
+          (alloc_size p d o).last (asks_class p d n o (leaf_names.alloc d o) (alloc_size p d o)))
+          ∷ ((rotate_group (leaf_names.alloc d o).choice (high p d)).nets ++ for_each ((alloc_size p d o).last + 1) (taken_nets p d n o (leaf_names.alloc d o) (alloc_size p d o))))
+      after-classes a = all-back (ItemFound ls) (for_each ((alloc_size p d o).last + 1) (class_nets
+          (leaf_names.alloc d o) (alloc_size p d o))) _ a
 
-      pub least : (k : ℕ) → k < (alloc_size p d o).last + 1 → Wire ls ((leaf_names.alloc d o).least k) (alloc_size p d o).size (at d 1 o + (2 + 2 * k) + 1)
-      least k less = let few = few-last in let small = few-size in wire-of 1 o (2 + 2 * k) (alloc_size p d o).size (class-has k less).1.1.0 (omega (arith, small)) (omega arith) (few-o o low) (omega (arith, few, less))
+      -- with one channel and with more there are the request, what is chosen from, and the winner
+      choice-found : (b : Bool) → AllByRecursion (ItemFound ls) (if b then lone_requests (leaf_names.alloc d o)
+          (alloc_size p d o) else class_requests p d n o (leaf_names.alloc d o) (alloc_size p d o))
+          → ItemFound ls (wire (high p d) (leaf_names.alloc d o).choice.request) × ItemFound ls (wire (high p d)
+          (leaf_names.alloc d o).choice.some) × ItemFound ls (wire (high p d) (leaf_names.alloc d o).choice.winner)
+      choice-found true a = (a.0, a.1.1.0, a.1.1.1.1.0)
+      choice-found false a = let r = after-classes a in (r.0, r.1.1.0, r.1.1.1.1.0)
 
       pub request : Wire ls (leaf_names.alloc d o).choice.request (high p d) (at d 1 o + 5 + 1)
-      request = wire-of 1 o 5 (high p d) after-classes.0 few-high (omega arith) (few-o o low) (omega arith)
+      request = wire-of 1 o 5 (high p d) (choice-found (has_one (alloc_size p d o)) alloc-nets).0 few-high
+          (omega arith) (few-o o low) (omega arith)
 
       pub some : Wire ls (leaf_names.alloc d o).choice.some (high p d) (at d 1 o + 6 + 1)
-      some = wire-of 1 o 6 (high p d) after-classes.1.1.0 few-high (omega arith) (few-o o low) (omega arith)
+      some = wire-of 1 o 6 (high p d) (choice-found (has_one (alloc_size p d o)) alloc-nets).1 few-high (omega arith)
+          (few-o o low) (omega arith)
 
       pub winner : Wire ls (leaf_names.alloc d o).choice.winner (high p d) (at d 1 o + 7 + 1)
-      winner = wire-of 1 o 7 (high p d) after-classes.1.1.1.1.0 few-high (omega arith) (few-o o low) (omega arith)
+      winner = wire-of 1 o 7 (high p d) (choice-found (has_one (alloc_size p d o)) alloc-nets).2 few-high
+          (omega arith) (few-o o low) (omega arith)
 
-      pub taken : (k : ℕ) → k < (alloc_size p d o).last + 1 → Wire ls ((leaf_names.alloc d o).taken k) (alloc_size p d o).size (at d 1 o + (8 + k) + 1)
-      taken k less =
-          let few = few-last in let small = few-size in
-          wire-of 1 o (8 + k) (alloc_size p d o).size (each-has (ItemFound ls) ((alloc_size p d o).last + 1) (taken_nets p d n o (leaf_names.alloc d o) (alloc_size p d o)) k less after-classes.1.1.1.1.1.1).0 (omega (arith, small)) (omega arith) (few-o o low) (omega (arith, few, less))
+      -- with more channels than one
+      module _ (more : has_one (alloc_size p d o) ≡ false) where
+        class-found : AllByRecursion (ItemFound ls) (class_requests p d n o (leaf_names.alloc d o) (alloc_size p d o))
+        class-found = subst (λ b. AllByRecursion (ItemFound ls) (if b then lone_requests (leaf_names.alloc d o)
+            (alloc_size p d o) else class_requests p d n o (leaf_names.alloc d o) (alloc_size p d o))) more alloc-nets
+
+        class-has : (k : ℕ) → k < (alloc_size p d o).last + 1 → AllByRecursion (ItemFound ls) (class_nets (leaf_names.alloc d o) (alloc_size p d o) k)
+        class-has k less = each-has (ItemFound ls) ((alloc_size p d o).last + 1) (class_nets (leaf_names.alloc d o)
+            (alloc_size p d o)) k less (all-front (ItemFound ls) (for_each ((alloc_size p d o).last + 1) (class_nets
+            (leaf_names.alloc d o) (alloc_size p d o))) _ class-found)
+
+        pub free : (k : ℕ) → k < (alloc_size p d o).last + 1 → Wire ls ((leaf_names.alloc d o).free k) (alloc_size p d o).size (at d 1 o + (1 + 2 * k) + 1)
+        free k less = let few = few-last in let small = few-size in wire-of 1 o (1 + 2 * k) (alloc_size p d o).size (class-has k less).0 (omega (arith, small)) (omega arith) (few-o o low) (omega (arith, few, less))
+
+        pub least : (k : ℕ) → k < (alloc_size p d o).last + 1 → Wire ls ((leaf_names.alloc d o).least k) (alloc_size p d o).size (at d 1 o + (2 + 2 * k) + 1)
+        least k less = let few = few-last in let small = few-size in wire-of 1 o (2 + 2 * k) (alloc_size p d o).size (class-has k less).1.1.0 (omega (arith, small)) (omega arith) (few-o o low) (omega (arith, few, less))
+
+        pub taken : (k : ℕ) → k < (alloc_size p d o).last + 1 → Wire ls ((leaf_names.alloc d o).taken k) (alloc_size p d o).size (at d 1 o + (8 + k) + 1)
+        taken k less =
+            let few = few-last in let small = few-size in
+            wire-of 1 o (8 + k) (alloc_size p d o).size (each-has (ItemFound ls) ((alloc_size p d o).last + 1)
+            (taken_nets p d n o (leaf_names.alloc d o) (alloc_size p d o)) k less
+            (after-classes class-found).1.1.1.1.1.1).0 (omega (arith, small)) (omega arith) (few-o o low) (omega
+            (arith, few, less))
 
       pub led : Wire ls (leaf_names.alloc d o).led (high p d) (at d 1 o + 0 + 1)
       led = wire-of 1 o 0 (high p d) (nets-of p n sound inside (led_group p n leaf_names net_names (dest_bits p) d o) (before p n leaf_names net_names (port_names n) (credit_base p) (leaf_sizes p) (slot_high p) (dest_bits p) (flit_bits p) (channel_bits p) [] d there (led_group p n leaf_names net_names (dest_bits p) d o) o (port-is p n d o low has) (inl refl))).0 few-high (omega arith) (few-o o low) (omega arith)
@@ -247,36 +273,29 @@ module _ (p : Plan) (n : ℕ) (sound : IsSound p) (inside : n < tiles p) where
       pub flit : Wire ls (net_names.flit d o) (33 + dest_bits p) (at d 8 o + 1 + 1)
       flit = wire-of 8 o 1 (33 + dest_bits p) (nets-of p n sound inside (flit_group p leaf_names net_names (dest_bits p) d o) (behind p n leaf_names net_names (port_names n) (credit_base p) (leaf_sizes p) (slot_high p) (dest_bits p) (flit_bits p) (channel_bits p) [] d there (flit_group p leaf_names net_names (dest_bits p) d o) o (port-is p n d o low has) (inr (inl refl)))).0 (let few = few-dests in omega (arith, few)) (omega arith) (few-o o low) (omega arith)
 
-    -- there or not
-    pub ready : (o : ℕ) → o < ports p → Wire ls (net_names.ready d o) (high p d) (at d 1 o + 10 + 1)
-    ready o low = go (has_port p n d o) refl
+    -- there, or among more channels than one
+    pub ready : (o : ℕ) → o < ports p → (is_lone p d ≡ true → has_port p n d o ≡ true) → Wire ls
+        (net_names.ready d o) (high p d) (at d 1 o + 10 + 1)
+    ready o low has = go (has_port p n d o) (is_lone p d) refl refl
       where
-        go : (b : Bool) → has_port p n d o ≡ b → Wire ls (net_names.ready d o) (high p d) (at d 1 o + 10 + 1)
-        go true e = wire-of 1 o 10 (high p d) (nets-of p n sound inside (ready_group p n leaf_names net_names (port_names n) (leaf_sizes p) d o) (before p n leaf_names net_names (port_names n) (credit_base p) (leaf_sizes p) (slot_high p) (dest_bits p) (flit_bits p) (channel_bits p) [] d there (ready_group p n leaf_names net_names (port_names n) (leaf_sizes p) d o) o (port-is p n d o low e) (inr (inr (inl refl))))).0 few-high (omega arith) (few-o o low) (omega arith)
-        go false e = wire-of 1 o 10 (high p d) (nets-of p n sound inside (unready_group p net_names d o) (unready-member p n leaf_names net_names (port_names n) (credit_base p) (leaf_sizes p) (slot_high p) (dest_bits p) (flit_bits p) (channel_bits p) [] d there o low (λ has. cc (sym e ∙ port-has p n d o has)))).0 few-high (omega arith) (few-o o low) (omega arith)
+        go : (b c : Bool) → has_port p n d o ≡ b → is_lone p d ≡ c → Wire ls (net_names.ready d o) (high p d)
+            (at d 1 o + 10 + 1)
+        go true c e is = wire-of 1 o 10 (high p d) (nets-of p n sound inside (ready_group p n leaf_names net_names
+            (port_names n) (leaf_sizes p) d o) (before p n leaf_names net_names (port_names n) (credit_base p)
+            (leaf_sizes p) (slot_high p) (dest_bits p) (flit_bits p) (channel_bits p) [] d there
+            (ready_group p n leaf_names net_names (port_names n) (leaf_sizes p) d o) o (port-is p n d o low e) (inr
+            (inr (inl refl))))).0 few-high (omega arith) (few-o o low) (omega arith)
+        go false true e is = absurd (cc (sym e ∙ has is))
+        go false false e is =
+            let found = nets-of p n sound inside (unready_group p net_names d o)
+            (unready-member p n leaf_names net_names (port_names n) (credit_base p) (leaf_sizes p) (slot_high p)
+            (dest_bits p) (flit_bits p) (channel_bits p) [] d there o low (λ has. cc
+            (sym e ∙ port-has p n d o has))) in
+            let its = subst (λ b. AllByRecursion (ItemFound ls) (if b then [] else defined (high p d)
+            (net_names.ready d o) (in_bits (high p d + 1) 0))) is found in
+            wire-of 1 o 10 (high p d) its.0 few-high (omega arith) (few-o o low) (omega arith)
 
     -- ---- the switch
-
-    switch-member : Member (switch_group (switch_names leaf_names net_names d) (switch_size p d)) (inner_groups p n)
-    switch-member = middle p n leaf_names net_names (port_names n) (credit_base p) (leaf_sizes p) (slot_high p) (dest_bits p) (flit_bits p) (channel_bits p) [] d there (switch_group (switch_names leaf_names net_names d) (switch_size p d)) (inl refl)
-
-    switch-nets : AllByRecursion (ItemFound ls) (switch_group (switch_names leaf_names net_names d) (switch_size p d)).nets
-    switch-nets = nets-of p n sound inside (switch_group (switch_names leaf_names net_names d) (switch_size p d)) switch-member
-
-    port-part : AllByRecursion (ItemFound ls) (for_each (ports p - 1 + 1) (port_nets (switch_names leaf_names net_names d) (switch_size p d)))
-    port-part = all-front (ItemFound ls) (for_each (ports p - 1 + 1) (port_nets (switch_names leaf_names net_names d) (switch_size p d))) _ switch-nets.1.1
-
-    after-ports : AllByRecursion (ItemFound ls) (wire (place_count (switch_size p d) - 1) (net_names.picked d) ∷ assign (net_names.picked d) (cat (row_parts (λ port. net ((switch_names leaf_names net_names d).turn port).winner) (ports p - 1)))
-        ∷ (for_each (ports p - 1 + 1) (output_nets (switch_names leaf_names net_names d) (switch_size p d)) ++ (for_each (ports p - 1 + 1) (grant_nets (switch_names leaf_names net_names d) (switch_size p d))
-        ++ (wire (place_count (switch_size p d) - 1) (net_names.leaves d) ∷ assign (net_names.leaves d) (cat (row_parts (λ port. net (net_names.granted d port)) (ports p - 1))) ∷ []))))
-    after-ports = all-back (ItemFound ls) (for_each (ports p - 1 + 1) (port_nets (switch_names leaf_names net_names d) (switch_size p d))) _ switch-nets.1.1
-
-    output-part : AllByRecursion (ItemFound ls) (for_each (ports p - 1 + 1) (output_nets (switch_names leaf_names net_names d) (switch_size p d)))
-    output-part = all-front (ItemFound ls) (for_each (ports p - 1 + 1) (output_nets (switch_names leaf_names net_names d) (switch_size p d))) _ after-ports.1.1
-
-    after-outputs : AllByRecursion (ItemFound ls) (for_each (ports p - 1 + 1) (grant_nets (switch_names leaf_names net_names d) (switch_size p d))
-        ++ (wire (place_count (switch_size p d) - 1) (net_names.leaves d) ∷ assign (net_names.leaves d) (cat (row_parts (λ port. net (net_names.granted d port)) (ports p - 1))) ∷ []))
-    after-outputs = all-back (ItemFound ls) (for_each (ports p - 1 + 1) (output_nets (switch_names leaf_names net_names d) (switch_size p d))) _ after-ports.1.1
 
     pub few-places : place_count (switch_size p d) - 1 < 64
     few-places = let is = places in let few = few-high in omega (arith, is, few)
@@ -290,53 +309,167 @@ module _ (p : Plan) (n : ℕ) (sound : IsSound p) (inside : n < tiles p) where
     pub low-port : (o : ℕ) → o < ports p - 1 + 1 → o < 8
     low-port o less = let few = few-ports p sound in omega (arith, few, less)
 
-    pub all : Wire ls (net_names.all d) (place_count (switch_size p d) - 1) (at d 2 0 + 0 + 1)
-    all = wire-of 2 0 0 (place_count (switch_size p d) - 1) switch-nets.0 few-places (omega arith) (omega arith) (omega arith)
+    switch-member : Member (switch_part p n leaf_names net_names d) (inner_groups p n)
+    switch-member = middle p n leaf_names net_names (port_names n) (credit_base p) (leaf_sizes p) (slot_high p)
+        (dest_bits p) (flit_bits p) (channel_bits p) [] d there (switch_part p n leaf_names net_names d) (inl refl)
 
-    pub turn-request : (o : ℕ) → o < ports p - 1 + 1 → Wire ls (leaf_names.turn d o).request (link_channels p d - 1) (at d 3 o + 0 + 1)
-    turn-request o less = wire-of 3 o 0 (link_channels p d - 1) (each-has (ItemFound ls) (ports p - 1 + 1) (port_nets (switch_names leaf_names net_names d) (switch_size p d)) o less port-part).0 few-links-high (omega arith) (low-port o less) (omega arith)
+    part-nets : AllByRecursion (ItemFound ls) (switch_part p n leaf_names net_names d).nets
+    part-nets = nets-of p n sound inside (switch_part p n leaf_names net_names d) switch-member
 
-    pub turn-some : (o : ℕ) → o < ports p - 1 + 1 → Wire ls (leaf_names.turn d o).some (link_channels p d - 1) (at d 3 o + 1 + 1)
-    turn-some o less = wire-of 3 o 1 (link_channels p d - 1) (each-has (ItemFound ls) (ports p - 1 + 1) (port_nets (switch_names leaf_names net_names d) (switch_size p d)) o less port-part).1.1.0 few-links-high (omega arith) (low-port o less) (omega arith)
+    part-heads : AllByRecursion (ItemFound ls) (switch_part p n leaf_names net_names d).heads
+    part-heads = heads-of p n sound inside (switch_part p n leaf_names net_names d) switch-member
 
-    pub turn-winner : (o : ℕ) → o < ports p - 1 + 1 → Wire ls (leaf_names.turn d o).winner (link_channels p d - 1) (at d 3 o + 2 + 1)
-    turn-winner o less = wire-of 3 o 2 (link_channels p d - 1) (each-has (ItemFound ls) (ports p - 1 + 1) (port_nets (switch_names leaf_names net_names d) (switch_size p d)) o less port-part).1.1.1.1.0 few-links-high (omega arith) (low-port o less) (omega arith)
+    -- one channel at each port
+    module _ (one : is_lone p d ≡ true) where
+      pub one-channel : link_channels p d ≡ 1
+      one-channel = grind (arith, nat_tests, one)
 
-    pub picked : Wire ls (net_names.picked d) (place_count (switch_size p d) - 1) (at d 4 0 + 0 + 1)
-    picked = wire-of 4 0 0 (place_count (switch_size p d) - 1) after-ports.0 few-places (omega arith) (omega arith) (omega arith)
+      pub lone-high : high p d ≡ ports p - 1
+      lone-high = ap (λ k. ports p * k - 1) one-channel ∙ omega arith
 
-    pub asks : (o : ℕ) → o < ports p - 1 + 1 → Wire ls (net_names.asks d o) (place_count (switch_size p d) - 1) (at d 5 o + 0 + 1)
-    asks o less = wire-of 5 o 0 (place_count (switch_size p d) - 1) (each-has (ItemFound ls) (ports p - 1 + 1) (output_nets (switch_names leaf_names net_names d) (switch_size p d)) o less output-part).0 few-places (omega arith) (low-port o less) (omega arith)
+      lone-found : AllByRecursion (ItemFound ls) (lone_switch_group (switch_names leaf_names net_names d)
+          (ports p - 1) (has_port p n d)).nets
+      lone-found = subst (λ b. AllByRecursion (ItemFound ls) (if b then lone_switch_group
+          (switch_names leaf_names net_names d) (ports p - 1) (has_port p n d) else switch_group
+          (switch_names leaf_names net_names d) (switch_size p d)).nets) one part-nets
 
-    pub choice-request : (o : ℕ) → o < ports p - 1 + 1 → Wire ls (leaf_names.switch d o).request (ports p - 1) (at d 5 o + 1 + 1)
-    choice-request o less = wire-of 5 o 1 (ports p - 1) (each-has (ItemFound ls) (ports p - 1 + 1) (output_nets (switch_names leaf_names net_names d) (switch_size p d)) o less output-part).1.1.0 few-ports-high (omega arith) (low-port o less) (omega arith)
+      lone-declared : AllByRecursion (ItemFound ls) (lone_switch_group (switch_names leaf_names net_names d)
+          (ports p - 1) (has_port p n d)).heads
+      lone-declared = subst (λ b. AllByRecursion (ItemFound ls) (if b then lone_switch_group
+          (switch_names leaf_names net_names d) (ports p - 1) (has_port p n d) else switch_group
+          (switch_names leaf_names net_names d) (switch_size p d)).heads) one part-heads
 
-    pub choice-some : (o : ℕ) → o < ports p - 1 + 1 → Wire ls (leaf_names.switch d o).some (ports p - 1) (at d 5 o + 2 + 1)
-    choice-some o less = wire-of 5 o 2 (ports p - 1) (each-has (ItemFound ls) (ports p - 1 + 1) (output_nets (switch_names leaf_names net_names d) (switch_size p d)) o less output-part).1.1.1.1.0 few-ports-high (omega arith) (low-port o less) (omega arith)
+      lone-leaves : ItemFound ls (wire (ports p - 1) (net_names.leaves d))
+      lone-leaves = (all-back (ItemFound ls) (for_each (ports p - 1 + 1) (lone_nets
+          (switch_names leaf_names net_names d) (ports p - 1) (has_port p n d))) _ lone-found).0
 
-    pub choice-winner : (o : ℕ) → o < ports p - 1 + 1 → Wire ls (leaf_names.switch d o).winner (ports p - 1) (at d 5 o + 3 + 1)
-    choice-winner o less = wire-of 5 o 3 (ports p - 1) (each-has (ItemFound ls) (ports p - 1 + 1) (output_nets (switch_names leaf_names net_names d) (switch_size p d)) o less output-part).1.1.1.1.1.1.0 few-ports-high (omega arith) (low-port o less) (omega arith)
+      module _ (o : ℕ) (less : o < ports p - 1 + 1) (has : has_port p n d o ≡ true) where
+        lone-choice : AllByRecursion (ItemFound ls) (rotate_group (lone_choice
+            (switch_names leaf_names net_names d) o) (ports p - 1)).nets
+        lone-choice = subst (λ b. AllByRecursion (ItemFound ls) (if b then (rotate_group (lone_choice
+            (switch_names leaf_names net_names d) o) (ports p - 1)).nets else [])) has
+            (each-has (ItemFound ls) (ports p - 1 + 1) (lone_nets (switch_names leaf_names net_names d) (ports p - 1)
+            (has_port p n d)) o less (all-front (ItemFound ls) (for_each (ports p - 1 + 1) (lone_nets
+            (switch_names leaf_names net_names d) (ports p - 1) (has_port p n d))) _ lone-found))
 
-    pub granted : (o : ℕ) → o < ports p - 1 + 1 → Wire ls (net_names.granted d o) (link_channels p d - 1) (at d 6 o + 0 + 1)
-    granted o less = wire-of 6 o 0 (link_channels p d - 1) (each-has (ItemFound ls) (ports p - 1 + 1) (grant_nets (switch_names leaf_names net_names d) (switch_size p d)) o less (all-front (ItemFound ls) (for_each (ports p - 1 + 1) (grant_nets (switch_names leaf_names net_names d) (switch_size p d))) _ after-outputs)).0 few-links-high (omega arith) (low-port o less) (omega arith)
+        lone-pointer : AllByRecursion (ItemFound ls) (rotate_group (lone_choice
+            (switch_names leaf_names net_names d) o) (ports p - 1)).heads
+        lone-pointer = subst (λ b. AllByRecursion (ItemFound ls) (if b then (rotate_group (lone_choice
+            (switch_names leaf_names net_names d) o) (ports p - 1)).heads else [])) has
+            (each-has (ItemFound ls) (ports p - 1 + 1) (lone_heads (switch_names leaf_names net_names d)
+            (ports p - 1) (has_port p n d)) o less lone-declared)
+
+    -- more channels
+    module _ (more : is_lone p d ≡ false) where
+      pub not-one : (o : ℕ) → is_lone p d ≡ true → has_port p n d o ≡ true
+      not-one o one = absurd (cc (sym one ∙ more))
+
+      switch-nets : AllByRecursion (ItemFound ls) (switch_group (switch_names leaf_names net_names d) (switch_size p d)).nets
+      switch-nets = subst (λ b. AllByRecursion (ItemFound ls) (if b then lone_switch_group
+          (switch_names leaf_names net_names d) (ports p - 1) (has_port p n d) else switch_group
+          (switch_names leaf_names net_names d) (switch_size p d)).nets) more part-nets
+
+      switch-heads : AllByRecursion (ItemFound ls) (switch_group (switch_names leaf_names net_names d) (switch_size p d)).heads
+      switch-heads = subst (λ b. AllByRecursion (ItemFound ls) (if b then lone_switch_group
+          (switch_names leaf_names net_names d) (ports p - 1) (has_port p n d) else switch_group
+          (switch_names leaf_names net_names d) (switch_size p d)).heads) more part-heads
+
+      port-part : AllByRecursion (ItemFound ls) (for_each (ports p - 1 + 1) (port_nets (switch_names leaf_names net_names d) (switch_size p d)))
+      port-part = all-front (ItemFound ls) (for_each (ports p - 1 + 1) (port_nets (switch_names leaf_names net_names d) (switch_size p d))) _ switch-nets.1.1
+
+      after-ports : AllByRecursion (ItemFound ls) (wire (place_count (switch_size p d) - 1) (net_names.picked d) ∷ assign (net_names.picked d) (cat (row_parts (λ port. net ((switch_names leaf_names net_names d).turn port).winner) (ports p - 1)))
+          ∷ (for_each (ports p - 1 + 1) (output_nets (switch_names leaf_names net_names d) (switch_size p d)) ++ (for_each (ports p - 1 + 1) (grant_nets (switch_names leaf_names net_names d) (switch_size p d))
+          ++ (wire (place_count (switch_size p d) - 1) (net_names.leaves d) ∷ assign (net_names.leaves d) (cat (row_parts (λ port. net (net_names.granted d port)) (ports p - 1))) ∷ []))))
+      after-ports = all-back (ItemFound ls) (for_each (ports p - 1 + 1) (port_nets (switch_names leaf_names net_names d) (switch_size p d))) _ switch-nets.1.1
+
+      output-part : AllByRecursion (ItemFound ls) (for_each (ports p - 1 + 1) (output_nets (switch_names leaf_names net_names d) (switch_size p d)))
+      output-part = all-front (ItemFound ls) (for_each (ports p - 1 + 1) (output_nets (switch_names leaf_names net_names d) (switch_size p d))) _ after-ports.1.1
+
+      after-outputs : AllByRecursion (ItemFound ls) (for_each (ports p - 1 + 1) (grant_nets (switch_names leaf_names net_names d) (switch_size p d))
+          ++ (wire (place_count (switch_size p d) - 1) (net_names.leaves d) ∷ assign (net_names.leaves d) (cat (row_parts (λ port. net (net_names.granted d port)) (ports p - 1))) ∷ []))
+      after-outputs = all-back (ItemFound ls) (for_each (ports p - 1 + 1) (output_nets (switch_names leaf_names net_names d) (switch_size p d))) _ after-ports.1.1
+
+      pub all : Wire ls (net_names.all d) (place_count (switch_size p d) - 1) (at d 2 0 + 0 + 1)
+      all = wire-of 2 0 0 (place_count (switch_size p d) - 1) switch-nets.0 few-places (omega arith) (omega arith) (omega arith)
+
+      pub turn-request : (o : ℕ) → o < ports p - 1 + 1 → Wire ls (leaf_names.turn d o).request (link_channels p d - 1) (at d 3 o + 0 + 1)
+      turn-request o less = wire-of 3 o 0 (link_channels p d - 1) (each-has (ItemFound ls) (ports p - 1 + 1) (port_nets (switch_names leaf_names net_names d) (switch_size p d)) o less port-part).0 few-links-high (omega arith) (low-port o less) (omega arith)
+
+      pub turn-some : (o : ℕ) → o < ports p - 1 + 1 → Wire ls (leaf_names.turn d o).some (link_channels p d - 1) (at d 3 o + 1 + 1)
+      turn-some o less = wire-of 3 o 1 (link_channels p d - 1) (each-has (ItemFound ls) (ports p - 1 + 1) (port_nets (switch_names leaf_names net_names d) (switch_size p d)) o less port-part).1.1.0 few-links-high (omega arith) (low-port o less) (omega arith)
+
+      pub turn-winner : (o : ℕ) → o < ports p - 1 + 1 → Wire ls (leaf_names.turn d o).winner (link_channels p d - 1) (at d 3 o + 2 + 1)
+      turn-winner o less = wire-of 3 o 2 (link_channels p d - 1) (each-has (ItemFound ls) (ports p - 1 + 1) (port_nets (switch_names leaf_names net_names d) (switch_size p d)) o less port-part).1.1.1.1.0 few-links-high (omega arith) (low-port o less) (omega arith)
+
+      pub picked : Wire ls (net_names.picked d) (place_count (switch_size p d) - 1) (at d 4 0 + 0 + 1)
+      picked = wire-of 4 0 0 (place_count (switch_size p d) - 1) after-ports.0 few-places (omega arith) (omega arith) (omega arith)
+
+      pub asks : (o : ℕ) → o < ports p - 1 + 1 → Wire ls (net_names.asks d o) (place_count (switch_size p d) - 1) (at d 5 o + 0 + 1)
+      asks o less = wire-of 5 o 0 (place_count (switch_size p d) - 1) (each-has (ItemFound ls) (ports p - 1 + 1) (output_nets (switch_names leaf_names net_names d) (switch_size p d)) o less output-part).0 few-places (omega arith) (low-port o less) (omega arith)
+
+      pub choice-request : (o : ℕ) → o < ports p - 1 + 1 → Wire ls (leaf_names.switch d o).request (ports p - 1) (at d 5 o + 1 + 1)
+      choice-request o less = wire-of 5 o 1 (ports p - 1) (each-has (ItemFound ls) (ports p - 1 + 1) (output_nets (switch_names leaf_names net_names d) (switch_size p d)) o less output-part).1.1.0 few-ports-high (omega arith) (low-port o less) (omega arith)
+
+      output-has : (o : ℕ) → o < ports p - 1 + 1 → AllByRecursion (ItemFound ls) (output_nets
+          (switch_names leaf_names net_names d) (switch_size p d) o)
+      output-has o less = each-has (ItemFound ls) (ports p - 1 + 1) (output_nets
+          (switch_names leaf_names net_names d) (switch_size p d)) o less output-part
+
+      pointer-has : (o : ℕ) → o < ports p - 1 + 1 → ItemFound ls (reg (ports p - 1) (leaf_names.switch d o).pointer)
+      pointer-has o less = (each-has (ItemFound ls) (ports p - 1 + 1) (λ o. reg (ports p - 1)
+          (leaf_names.switch d o).pointer ∷ []) o less (all-front (ItemFound ls) (for_each (ports p - 1 + 1)
+          (λ o. reg (ports p - 1) (leaf_names.switch d o).pointer ∷ [])) _ switch-heads)).0
+
+      leaves-has : ItemFound ls (wire (place_count (switch_size p d) - 1) (net_names.leaves d))
+      leaves-has = (all-back (ItemFound ls) (for_each (ports p - 1 + 1) (grant_nets
+          (switch_names leaf_names net_names d) (switch_size p d))) _ after-outputs).0
+
+      pub granted : (o : ℕ) → o < ports p - 1 + 1 → Wire ls (net_names.granted d o) (link_channels p d - 1) (at d 6 o + 0 + 1)
+      granted o less = wire-of 6 o 0 (link_channels p d - 1) (each-has (ItemFound ls) (ports p - 1 + 1) (grant_nets (switch_names leaf_names net_names d) (switch_size p d)) o less (all-front (ItemFound ls) (for_each (ports p - 1 + 1) (grant_nets (switch_names leaf_names net_names d) (switch_size p d))) _ after-outputs)).0 few-links-high (omega arith) (low-port o less) (omega arith)
+
+      pub turn-pointer : (o : ℕ) → o < ports p - 1 + 1 → Net ls Register (leaf_names.turn d o).pointer (link_channels p d - 1)
+      turn-pointer o less = reg-of 2 o 0 (link_channels p d - 1) (each-has (ItemFound ls) (ports p - 1 + 1) (λ o. reg (link_channels p d - 1) (leaf_names.turn d o).pointer ∷ []) o less (all-back (ItemFound ls) (for_each (ports p - 1 + 1) (λ o. reg (ports p - 1) (leaf_names.switch d o).pointer ∷ [])) (for_each (ports p - 1 + 1) (λ o. reg (link_channels p d - 1) (leaf_names.turn d o).pointer ∷ [])) switch-heads)).0 few-links-high (omega arith) (low-port o less) (omega arith)
+
+    -- one or more
+    module _ (o : ℕ) (less : o < ports p - 1 + 1) (has : is_lone p d ≡ true → has_port p n d o ≡ true) where
+      pub choice-some : Wire ls (leaf_names.switch d o).some (ports p - 1) (at d 5 o + 2 + 1)
+      choice-some = wire-of 5 o 2 (ports p - 1) (go (is_lone p d) refl) few-ports-high (omega arith)
+          (low-port o less) (omega arith)
+        where
+          go : (b : Bool) → is_lone p d ≡ b → ItemFound ls (wire (ports p - 1) (leaf_names.switch d o).some)
+          go true e = (lone-choice e o less (has e)).0
+          go false e = (output-has e o less).1.1.1.1.0
+
+      pub choice-winner : Wire ls (leaf_names.switch d o).winner (ports p - 1) (at d 5 o + 3 + 1)
+      choice-winner = wire-of 5 o 3 (ports p - 1) (go (is_lone p d) refl) few-ports-high (omega arith)
+          (low-port o less) (omega arith)
+        where
+          go : (b : Bool) → is_lone p d ≡ b → ItemFound ls (wire (ports p - 1) (leaf_names.switch d o).winner)
+          go true e = (lone-choice e o less (has e)).1.1.0
+          go false e = (output-has e o less).1.1.1.1.1.1.0
+
+      pub choice-pointer : Net ls Register (leaf_names.switch d o).pointer (ports p - 1)
+      choice-pointer = reg-of 1 o 0 (ports p - 1) (go (is_lone p d) refl) few-ports-high (omega arith)
+          (low-port o less) (omega arith)
+        where
+          go : (b : Bool) → is_lone p d ≡ b → ItemFound ls (reg (ports p - 1) (leaf_names.switch d o).pointer)
+          go true e = (lone-pointer e o less (has e)).0
+          go false e = pointer-has e o less
 
     pub leaves : Wire ls (net_names.leaves d) (place_count (switch_size p d) - 1) (at d 7 0 + 0 + 1)
-    leaves = wire-of 7 0 0 (place_count (switch_size p d) - 1) (all-back (ItemFound ls) (for_each (ports p - 1 + 1) (grant_nets (switch_names leaf_names net_names d) (switch_size p d))) _ after-outputs).0 few-places (omega arith) (omega arith) (omega arith)
+    leaves = wire-of 7 0 0 (place_count (switch_size p d) - 1) (go (is_lone p d) refl) few-places (omega arith)
+        (omega arith) (omega arith)
+      where
+        go : (b : Bool) → is_lone p d ≡ b → ItemFound ls (wire (place_count (switch_size p d) - 1) (net_names.leaves d))
+        go true e = subst (λ h. ItemFound ls (wire h (net_names.leaves d)))
+            (let is = places in let wide = lone-high e in omega (arith, is, wide)) (lone-leaves e)
+        go false e = leaves-has e
 
     pub ends : Wire ls (net_names.ends d) (high p d) (at d 7 0 + 1 + 1)
     ends = wire-of 7 0 1 (high p d) (nets-of p n sound inside (ends_group p net_names d) (middle p n leaf_names net_names (port_names n) (credit_base p) (leaf_sizes p) (slot_high p) (dest_bits p) (flit_bits p) (channel_bits p) [] d there (ends_group p net_names d) (inr (inl refl)))).0 few-high (omega arith) (omega arith) (omega arith)
 
     pub idle : Net ls Register (leaf_names.idle d) (high p d)
     idle = reg-of 3 0 0 (high p d) (heads-of p n sound inside (idle_group (leaf_names.idle d) (net_names.filled d) (net_names.ends d) (high p d)) (middle p n leaf_names net_names (port_names n) (credit_base p) (leaf_sizes p) (slot_high p) (dest_bits p) (flit_bits p) (channel_bits p) [] d there (idle_group (leaf_names.idle d) (net_names.filled d) (net_names.ends d) (high p d)) (inr (inr (inl refl))))).0 few-high (omega arith) (omega arith) (omega arith)
-
-    switch-heads : AllByRecursion (ItemFound ls) (switch_group (switch_names leaf_names net_names d) (switch_size p d)).heads
-    switch-heads = heads-of p n sound inside (switch_group (switch_names leaf_names net_names d) (switch_size p d)) switch-member
-
-    pub choice-pointer : (o : ℕ) → o < ports p - 1 + 1 → Net ls Register (leaf_names.switch d o).pointer (ports p - 1)
-    choice-pointer o less = reg-of 1 o 0 (ports p - 1) (each-has (ItemFound ls) (ports p - 1 + 1) (λ o. reg (ports p - 1) (leaf_names.switch d o).pointer ∷ []) o less (all-front (ItemFound ls) (for_each (ports p - 1 + 1) (λ o. reg (ports p - 1) (leaf_names.switch d o).pointer ∷ [])) _ switch-heads)).0 few-ports-high (omega arith) (low-port o less) (omega arith)
-
-    pub turn-pointer : (o : ℕ) → o < ports p - 1 + 1 → Net ls Register (leaf_names.turn d o).pointer (link_channels p d - 1)
-    turn-pointer o less = reg-of 2 o 0 (link_channels p d - 1) (each-has (ItemFound ls) (ports p - 1 + 1) (λ o. reg (link_channels p d - 1) (leaf_names.turn d o).pointer ∷ []) o less (all-back (ItemFound ls) (for_each (ports p - 1 + 1) (λ o. reg (ports p - 1) (leaf_names.switch d o).pointer ∷ [])) (for_each (ports p - 1 + 1) (λ o. reg (link_channels p d - 1) (leaf_names.turn d o).pointer ∷ [])) switch-heads)).0 few-links-high (omega arith) (low-port o less) (omega arith)
 
     -- ---- links
 

@@ -14,14 +14,14 @@ use Rattle.gen_kit.specs.Families.{for_each, or_upto, row_parts, defined, in_bit
 use Rattle.gen_kit.specs.Rotate.{rotate_group, pointer_moves, is_empty, behind_member}
 use Rattle.gen_kit.specs.Groups.{Group, all_items}
 use Rattle.gen_buffer.specs.Fifo.{FifoNames}
-use Rattle.leaf_tie.specs.Alloc.{AllocNames, AllocSize, class_start, zero_of, asks_class, out_count, class_nets, taken_nets, alloc_group}
+use Rattle.leaf_tie.specs.Alloc.{AllocNames, AllocSize, class_start, becomes_active, has_one, lone_requests, class_requests, asks_class, out_count, class_nets, taken_nets, alloc_group}
 use Rattle.leaf_tie.specs.Attach.{AttachNames, AttachSize, enter_at, look_nets, looked, in_range, room_expr, entry_word, reach, attach_group}
 use Rattle.leaf_tie.specs.Buffers.{BufferSize, buffer_group}
 use Rattle.leaf_tie.specs.Links.{LinkNames, link_group}
 use Rattle.leaf_tie.specs.Slots.{SlotNames, owned_nets, slot_group}
-use Rattle.leaf_tie.specs.Switch.{place_count, SwitchNames, SwitchSize, port_nets, output_nets, grant_nets, switch_group}
-use Rattle.leaf_tie.specs.Tie.{LeafNames, PortNames, alloc_size}
-use Rattle.leaf_tie.specs.Glue.{NetNames, switch_names, switch_size, link_names, attach_names, attach_size, has_port, link_push, pop_of}
+use Rattle.leaf_tie.specs.Switch.{place_count, SwitchNames, SwitchSize, port_nets, output_nets, grant_nets, switch_group, lone_choice, lone_heads, lone_nets, lone_moves, chosen_place, lone_switch_group}
+use Rattle.leaf_tie.specs.Tie.{LeafNames, PortNames, alloc_size, is_lone}
+use Rattle.leaf_tie.specs.Glue.{NetNames, switch_names, switch_size, switch_part, link_names, attach_names, attach_size, high, has_port, unready_group, link_push, pop_of}
 use Rattle.leaf_tie.specs.Whole.{each_group, to_neighbour, uses_slot, domain_groups, leaf_groups}
 
 module _ (x : Name) where
@@ -127,16 +127,69 @@ module _ (x : Name) where
   pub record EvenGroup (g : Group) : Type 0 where
     pub same : declares g.heads + (declares g.nets + declares g.moves) ≡ driven g.heads + (driven g.nets + driven g.moves)
 
-  alloc-even : (p : Plan) (d n o : ℕ) (a : AllocNames) (z : AllocSize) → EvenGroup (alloc_group p d n o a z)
-  alloc-even p d n o a z =
+  requests-even : (p : Plan) (d n o : ℕ) (a : AllocNames) (z : AllocSize) → Even (class_requests p d n o a z)
+  requests-even p d n o a z =
       let taken = pairs-taken p d n o a z (z.last + 1) in
       let rest : Even (wire z.high a.choice.request ∷ assign a.choice.request (or_upto z.last (asks_class p d n o a z)) ∷ ((rotate_group a.choice z.high).nets ++ for_each (z.last + 1) (taken_nets p d n o a z))) = omega (arith, taken) in
-      let nets : Even (alloc_group p d n o a z).nets = both (for_each (z.last + 1) (class_nets a z)) _ (pairs-class a z (z.last + 1)) rest in
+      both (for_each (z.last + 1) (class_nets a z)) _ (pairs-class a z (z.last + 1)) rest
+
+  alloc-even : (p : Plan) (d n o : ℕ) (a : AllocNames) (z : AllocSize) → EvenGroup (alloc_group p d n o a z)
+  alloc-even p d n o a z =
+      let nets : Even (alloc_group p d n o a z).nets = go (has_one z) in
       let heads = of-registers z.high a.active (out_count z) in
       let idle = none-driven z.high a.active (out_count z) in
-      let moved = of-rows a.active (record { width = z.high + 1; value = 0 }) (λ k j. two Or (two And (net (a.active (class_start z k + j))) (not (net a.ends))) (choose (bit (a.taken k) j) (net a.choice.winner) (zero_of z.high))) (z.last + 1) (z.size + 1) in
-      let undeclared = none-in-rows a.active (record { width = z.high + 1; value = 0 }) (λ k j. two Or (two And (net (a.active (class_start z k + j))) (not (net a.ends))) (choose (bit (a.taken k) j) (net a.choice.winner) (zero_of z.high))) (z.last + 1) (z.size + 1) in
+      let moved = of-rows a.active (record { width = z.high + 1; value = 0 }) (λ k j. two Or (two And (net (a.active
+      (class_start z k + j))) (not (net a.ends))) (becomes_active a z k j)) (z.last + 1) (z.size + 1) in
+      let undeclared = none-in-rows a.active (record { width = z.high + 1; value = 0 }) (λ k j. two Or (two And (net
+      (a.active (class_start z k + j))) (not (net a.ends))) (becomes_active a z k j)) (z.last + 1) (z.size + 1) in
       record { same = omega (arith, nets, heads, idle, moved, undeclared) }
+    where
+      go : (b : Bool) → Even (if b then lone_requests a z else class_requests p d n o a z)
+      go true = omega arith
+      go false = requests-even p d n o a z
+
+  unready-even : (p : Plan) (nets : NetNames) (d o : ℕ) → EvenGroup (unready_group p nets d o)
+  unready-even p nets d o = record { same = go (is_lone p d) }
+    where
+      go : (b : Bool) → 0 + (declares (if b then [] else defined (high p d) (nets.ready d o) (in_bits
+          (high p d + 1) 0)) + 0)
+          ≡ 0 + (driven (if b then [] else defined (high p d) (nets.ready d o) (in_bits (high p d + 1) 0)) + 0)
+      go true = refl
+      go false = omega arith
+
+  -- what the first lists declare, the second ones drive
+  paired : (n : ℕ) (f g : ℕ → List Item) → ((k : ℕ) → declares (f k) + declares (g k) ≡ driven (f k) + driven (g k))
+      → declares (for_each n f) + declares (for_each n g) ≡ driven (for_each n f) + driven (for_each n g)
+  paired zero f g h = refl
+  paired (suc n) f g h =
+      let rest = paired n f g h in
+      let here = h n in
+      let f1 = declares-append (for_each n f) (f n) in
+      let f2 = driven-append (for_each n f) (f n) in
+      let g1 = declares-append (for_each n g) (g n) in
+      let g2 = driven-append (for_each n g) (g n) in
+      omega (arith, rest, here, f1, f2, g1, g2)
+
+  lone-even : (a : SwitchNames) (last : ℕ) (there : ℕ → Bool) → EvenGroup (lone_switch_group a last there)
+  lone-even a last there =
+      let nets = evens (last + 1) (lone_nets a last there) (λ o. its-nets o (there o)) in
+      let leaves : Even (defined last a.leaves (or_upto last (chosen_place a last there))) = omega arith in
+      let all = both (for_each (last + 1) (lone_nets a last there)) (defined last a.leaves (or_upto last
+      (chosen_place a last there))) nets leaves in
+      let rest = paired (last + 1) (lone_heads a last there) (lone_moves a last there) (λ o. its-pointer o (there o)) in
+      record { same = omega (arith, all, rest) }
+    where
+      its-nets : (o : ℕ) (b : Bool) → Even (if b then (rotate_group (lone_choice a o) last).nets else [])
+      its-nets o true = omega arith
+      its-nets o false = refl
+
+      its-pointer : (o : ℕ) (b : Bool)
+          → declares (if b then (rotate_group (lone_choice a o) last).heads else []) + declares (if b then
+          (rotate_group (lone_choice a o) last).moves else [])
+          ≡ driven (if b then (rotate_group (lone_choice a o) last).heads else []) + driven (if b then (rotate_group
+          (lone_choice a o) last).moves else [])
+      its-pointer o true = omega arith
+      its-pointer o false = refl
 
   switch-even : (a : SwitchNames) (z : SwitchSize) → EvenGroup (switch_group a z)
   switch-even a z =
@@ -162,6 +215,15 @@ module _ (x : Name) where
       let u1 = none-declared (λ o. (a.choice o).pointer) (record { width = z.last + 1; value = 2 ^ (z.last + 1) - 1 }) (λ o. choose (is_empty z.last (net (a.choice o).winner)) (net (a.choice o).pointer) (behind_member z.last (a.choice o).winner)) (z.last + 1) in
       let u2 = none-declared (λ o. (a.turn o).pointer) (record { width = z.channel + 1; value = 2 ^ (z.channel + 1) - 1 }) (λ o. choose (is_empty z.channel (net (a.granted o))) (net (a.turn o).pointer) (behind_member z.channel (a.granted o))) (z.last + 1) in
       record { same = omega (arith, ports, outputs, grants, after, after', between, between', first, first', heads, heads', choices, turns, idle, idle', moves, moves', m1, m2, u1, u2) }
+
+  part-even : (p : Plan) (n : ℕ) (names : LeafNames) (nets : NetNames) (d : ℕ) → EvenGroup
+      (switch_part p n names nets d)
+  part-even p n names nets d = go (is_lone p d)
+    where
+      go : (b : Bool) → EvenGroup (if b then lone_switch_group (switch_names names nets d) (ports p - 1)
+          (has_port p n d) else switch_group (switch_names names nets d) (switch_size p d))
+      go true = lone-even (switch_names names nets d) (ports p - 1) (has_port p n d)
+      go false = switch-even (switch_names names nets d) (switch_size p d)
 
   link-even : (a : LinkNames) (h domains last : ℕ) → EvenGroup (link_group a h domains last)
   link-even a h domains last =
@@ -269,8 +331,10 @@ module _ (x : Name) where
     domain-even : (d : ℕ) → EvenGroups (domain_groups p n names nets q base size dest_bits link_flit link_channel d)
     domain-even d =
         even-next one-net (even-next one-net
-        (even-join (even-each (ports p) (λ o. even-if (has_port p n d o) (even-next one-net (even-next (alloc-even p d n o (names.alloc d o) (alloc_size p d o)) (even-next one-net no-evens))) (even-next one-net no-evens)))
-        (even-next (switch-even (switch_names names nets d) (switch_size p d)) (even-next one-net (even-next one-register
+        (even-join (even-each (ports p) (λ o. even-if (has_port p n d o) (even-next one-net (even-next
+        (alloc-even p d n o (names.alloc d o) (alloc_size p d o)) (even-next one-net no-evens))) (even-next
+        (unready-even p nets d o) no-evens)))
+        (even-next (part-even p n names nets d) (even-next one-net (even-next one-register
         (even-join (even-each (ports p) (λ o. even-if (has_port p n d o) (even-next one-net (even-next one-net no-evens)) no-evens))
         (even-join (even-each (ports p) (λ o. even-if (is_some (neighbour p n o))
         (even-join (even-each (link_channels p d) (λ c. even-next one-net (even-next one-register no-evens))) (even-next one-net (even-next one-register no-evens))) no-evens))

@@ -9,12 +9,12 @@ use Rattle.gen_buffer.specs.Fifo.{FifoNames}
 use Rattle.leaf_tie.specs.Alloc.{out_count}
 use Rattle.leaf_tie.specs.Attach.{attach_group, enter_at}
 use Rattle.leaf_tie.specs.Buffers.{BufferSize, buffer_group}
-use Rattle.leaf_tie.specs.Switch.{switch_group}
-use Rattle.leaf_tie.specs.Tie.{PortNames, alloc_size}
-use Rattle.leaf_tie.specs.Glue.{switch_names, switch_size, attach_names, attach_size, has_port, link_push, pop_of}
+use Rattle.leaf_tie.specs.Switch.{switch_group, lone_switch_group}
+use Rattle.leaf_tie.specs.Tie.{PortNames, alloc_size, is_lone}
+use Rattle.leaf_tie.specs.Glue.{switch_names, switch_size, switch_part, attach_names, attach_size, has_port, link_push, pop_of}
 use Rattle.leaf_tie.specs.Whole.{each_group, before_switch, behind_switch, sent_groups, link_buffers, local_groups, domain_groups}
 use Rattle.leaf_tie.specs.Names.{own, buffer_tag, leaf_names, net_names, alloc_names}
-use Rattle.leaf_sound.proofs.Rising.{Rises, nothing, net-next, clocked-next, store-next, wire-next, reg-next, mem-next, wider, join, each, GroupsRise, no-groups, groups-join, group-next, groups-wider, groups-each, groups-if, groups-neighbour}
+use Rattle.leaf_sound.proofs.Rising.{Rises, nothing, net-next, clocked-next, store-next, wire-next, reg-next, mem-next, wider, join, each, items-if, GroupsRise, no-groups, groups-join, group-next, group-if, groups-wider, groups-each, groups-if, groups-neighbour}
 use Rattle.leaf_sound.proofs.Ranked.{buffer_at, no-local, front-rank, empty-rank, read-rank, write-rank, count-rank, memory-rank}
 
 abbrev pub its_heads : Group → List Item
@@ -69,8 +69,19 @@ module _ (p : Plan) (n d : ℕ) (q : PortNames) (base : ℕ → ℕ) (size : Buf
       (bare low low refl (no-groups its_heads low low (omega arith)))))
       (λ absent. bare low low refl (no-groups its_heads low low (omega arith))))
 
-  switch-heads : (low : ℕ) → Rises low low (switch_group (switch_names leaf_names net_names d) (switch_size p d)).heads
-  switch-heads low = join low low low (registers (ports p - 1) (λ o. (leaf_names.switch d o).pointer) low (ports p - 1 + 1)) (registers (link_channels p d - 1) (λ port. (leaf_names.turn d port).pointer) low (ports p - 1 + 1))
+  many-heads : (low : ℕ) → Rises low low (switch_group (switch_names leaf_names net_names d) (switch_size p d)).heads
+  many-heads low = join low low low (registers (ports p - 1) (λ o. (leaf_names.switch d o).pointer) low
+      (ports p - 1 + 1)) (registers (link_channels p d - 1) (λ port. (leaf_names.turn d port).pointer) low
+      (ports p - 1 + 1))
+
+  lone-heads : (low : ℕ) → Rises low low
+      (lone_switch_group (switch_names leaf_names net_names d) (ports p - 1) (has_port p n d)).heads
+  lone-heads low =
+      each (λ o. low) (ports p - 1 + 1) (λ o less. items-if low low (has_port p n d o)
+      (λ has. reg-next low low (nothing low low (omega arith))) (λ absent. nothing low low (omega arith)))
+
+  switch-heads : (low : ℕ) → Rises low low (switch_part p n leaf_names net_names d).heads
+  switch-heads low = group-if its_heads low low (is_lone p d) (λ one. lone-heads low) (λ more. many-heads low)
 
   behind-heads : (low : ℕ) → GroupsRise its_heads low low (behind_switch p n d leaf_names net_names b)
   behind-heads low =

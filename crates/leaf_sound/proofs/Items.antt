@@ -106,6 +106,16 @@ module _ (ls : List Line) where
   nets-each zero h = nets-nil
   nets-each (suc n) h = nets-join (nets-each n (λ k less. h k (omega arith))) (h n (omega arith))
 
+  -- one list or the other
+  pub good-if : {a b : List Item} (c : Bool) → (c ≡ true → Good a) → (c ≡ false → Good b) → Good (if c then a else b)
+  good-if true x y = x refl
+  good-if false x y = y refl
+
+  pub nets-if : {a b : List Item} (c : Bool) → (c ≡ true → GoodNets a) → (c ≡ false → GoodNets b)
+      → GoodNets (if c then a else b)
+  nets-if true x y = x refl
+  nets-if false x y = y refl
+
   -- ---- groups
 
   pub record GoodGroups (gs : List Group) : Type 0 where

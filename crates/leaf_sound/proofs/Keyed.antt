@@ -1,32 +1,12 @@
 -- Names read back: the tag and the number of a name of a leaf's own, and its rank, which is higher the later the text
 -- drives it.
 use Rattle.std.proofs.Common.{◌≡◌, ℕ, ◌+◌, ◌*◌, ◌^◌, ◌<◌, ◌≤◌, Bool, true, false, List, [], ◌∷◌, ◌++◌, length, refl, ◌∙◌, ap, arith, nat_lt, ◌==◌, if◌then◌else◌, decimal}
-use Rattle.std.specs.Str.Parse.{AllDigits, digits_value}
+use Rattle.std.specs.Str.Parse.{digits_value}
 use Rattle.std.proofs.lemmas.Bool.Decides.{nat_tests}
 use Rattle.std.proofs.lemmas.Fmt.{decimal_is_IsNumeral}
-use Rattle.std.proofs.lemmas.Str.Parse.{digit_from_value}
 use Rattle.vl_tree.specs.Values.{Name}
+use Rattle.gen_kit.proofs.Spelled.{upto, behind, upto-digits, upto-last, behind-last, digit_second, read_tag, read_number, own-spelled}
 use Rattle.leaf_tie.specs.Names.{own}
-
--- the bytes up to the next underscore, and those behind it
-abbrev pub upto : List ℕ → List ℕ
-upto [] = []
-upto (b ∷ bs) = if b == 95 then [] else b ∷ upto bs
-
-abbrev pub behind : List ℕ → List ℕ
-behind [] = []
-behind (b ∷ bs) = if b == 95 then bs else behind bs
-
-not-line : (b : ℕ) → (48 ≤ b) × (b ≤ 57) → (b == 95) ≡ false
-not-line b h = let low = h.0 in let high = h.1 in grind (arith, nat_tests)
-
-upto-digits : (ds rest : List ℕ) → AllDigits 10 ds → (upto (ds ++ 95 ∷ rest) ≡ ds) × (behind (ds ++ 95 ∷ rest) ≡ rest)
-upto-digits [] rest all = (refl, refl)
-upto-digits (d ∷ ds) rest all = let more = upto-digits ds rest all.1 in rw (not-line d (digit_from_value d all.0)) (ap (λ z. d ∷ z) more.0, more.1)
-
-upto-last : (ds : List ℕ) → AllDigits 10 ds → upto (ds ++ []) ≡ ds
-upto-last [] all = refl
-upto-last (d ∷ ds) all = rw (not-line d (digit_from_value d all.0)) (ap (λ z. d ∷ z) (upto-last ds all.1))
 
 -- the place of a name among those of its tag: a buffer's front and mark of emptiness are driven first, and its memory
 -- last
@@ -88,17 +68,13 @@ place (a ∷ []) = 0
 place (a ∷ b ∷ []) = 0
 place (a ∷ b ∷ c ∷ bs) = place_by (port_code a b (is_more (behind (behind bs)))) (second_number bs)
 
-abbrev pub rank_behind : ℕ → List ℕ → ℕ
-rank_behind first bs = if first == 107 then key_rank (digits_value 10 (upto bs)) (digits_value 10 (upto (behind bs))) else out_of first bs
+abbrev pub out_rank : Name → ℕ
+out_rank [] = 0
+out_rank (b ∷ bs) = out_of b bs
 
--- 0 of an input port
+-- of an own name, which has a digit behind its letter, by its tag and number; 0 of an input port
 unfoldable pub rank : Name → ℕ
-rank [] = 0
-rank (b ∷ bs) = rank_behind b bs
-
-behind-last : (ds : List ℕ) → AllDigits 10 ds → behind (ds ++ []) ≡ []
-behind-last [] all = refl
-behind-last (d ∷ ds) all = rw (not-line d (digit_from_value d all.0)) (behind-last ds all.1)
+rank n = if digit_second n then key_rank (read_tag n) (read_number n) else out_rank n
 
 -- two numbers
 pair-read : (n d : ℕ) → n < 2 ^ 64 → d < 2 ^ 64 → (second_number (decimal n ++ (95 ∷ (decimal d ++ []))) ≡ d) × (is_more (behind (behind (decimal n ++ (95 ∷ (decimal d ++ []))))) ≡ false)
@@ -124,7 +100,7 @@ triple-read n d small few =
     some (d ∷ ds) h = refl
 
 -- the rank and the place of a port of two numbers, and of three
-pub two-rank : (a b n d : ℕ) → (a == 107) ≡ false → n < 2 ^ 64 → d < 2 ^ 64 → rank (a ∷ b ∷ 95 ∷ (decimal n ++ (95 ∷ (decimal d ++ [])))) ≡ out_by (port_code a b false) d
+pub two-rank : (a b n d : ℕ) → nat_lt b 58 ≡ false → n < 2 ^ 64 → d < 2 ^ 64 → rank (a ∷ b ∷ 95 ∷ (decimal n ++ (95 ∷ (decimal d ++ [])))) ≡ out_by (port_code a b false) d
 unfolding rank
 two-rank a b n d other small few = let read = pair-read n d small few in rw (other, read.0, read.1) refl
 
@@ -132,7 +108,7 @@ pub two-place : (a b n d : ℕ) → n < 2 ^ 64 → d < 2 ^ 64 → place (a ∷ b
 unfolding place
 two-place a b n d small few = let read = pair-read n d small few in rw (read.0, read.1) refl
 
-pub three-rank : (a b n d : ℕ) → (a == 107) ≡ false → n < 2 ^ 64 → d < 2 ^ 64 → rank (a ∷ b ∷ 95 ∷ (decimal n ++ (95 ∷ (decimal d ++ (95 ∷ (decimal 1 ++ [])))))) ≡ out_by (port_code a b true) d
+pub three-rank : (a b n d : ℕ) → nat_lt b 58 ≡ false → n < 2 ^ 64 → d < 2 ^ 64 → rank (a ∷ b ∷ 95 ∷ (decimal n ++ (95 ∷ (decimal d ++ (95 ∷ (decimal 1 ++ [])))))) ≡ out_by (port_code a b true) d
 unfolding rank
 three-rank a b n d other small few = let read = triple-read n d small few in rw (other, read.0, read.1) refl
 
@@ -142,16 +118,10 @@ three-place a b n d small few = let read = triple-read n d small few in rw (read
 
 -- ---- names of a leaf's own
 
-pub rank-own : (t i : ℕ) → t < 2 ^ 64 → i < 2 ^ 64 → rank (own t i) ≡ key_rank t i
+pub rank-own : (t i : ℕ) → t < 6144 → i < 2 ^ 64 → rank (own t i) ≡ key_rank t i
 unfolding rank
-rank-own t i small few =
-    let tag = decimal_is_IsNumeral t small in
-    let number = decimal_is_IsNumeral i few in
-    let split = upto-digits (decimal t) (decimal i ++ []) tag.0.1 in
-    let first : digits_value 10 (upto (decimal t ++ 95 ∷ (decimal i ++ []))) ≡ t = ap (digits_value 10) split.0 ∙ tag.1 in
-    let second : digits_value 10 (upto (behind (decimal t ++ 95 ∷ (decimal i ++ [])))) ≡ i = ap (λ z. digits_value 10 (upto z)) split.1 ∙ ap (digits_value 10) (upto-last (decimal i) number.0.1) ∙ number.1 in
-    rw (first, second) refl
+rank-own t i small few = let spelled = own-spelled t i small few in rw (spelled.digit, spelled.tag, spelled.number) refl
 
 -- a net or register behind the buffers
-pub rank-net : (t i : ℕ) → 1024 ≤ t → t < 8192 → i < 2048 → rank (own t i) ≡ 2048 * t + i + 1
-rank-net t i far near few = rank-own t i (omega arith) (omega arith) ∙ (let late : nat_lt t 1024 ≡ false = grind (arith, nat_tests) in rw late refl)
+pub rank-net : (t i : ℕ) → 1024 ≤ t → t < 6144 → i < 2048 → rank (own t i) ≡ 2048 * t + i + 1
+rank-net t i far near few = rank-own t i near (omega arith) ∙ (let late : nat_lt t 1024 ≡ false = grind (arith, nat_tests) in rw late refl)

@@ -1,7 +1,6 @@
 -- The items of a domain are right: links, buffers and the attachment.
-use Rattle.std.proofs.Common.{◌≡◌, ◌≢◌, ℕ, zero, suc, ◌+◌, ◌-◌, ◌*◌, ◌^◌, ◌<◌, ◌≤◌, ◌⊎◌, inl, inr, Bool, true, false, ◌&&◌, List, [], ◌∷◌, ◌++◌, length, refl, sym, ◌∙◌, ap, subst, arith, Option, Some, None, is_some, ◌==◌, nat_lt, min, codes, if◌then◌else◌, pos, All}
+use Rattle.std.proofs.Common.{◌≡◌, ℕ, zero, suc, ◌+◌, ◌-◌, ◌*◌, ◌^◌, ◌<◌, ◌≤◌, Bool, true, false, List, [], ◌∷◌, length, refl, sym, ◌∙◌, ap, subst, arith, Some, is_some, ◌==◌, nat_lt, codes, if◌then◌else◌, pos, All}
 use Rattle.std.proofs.lemmas.Bool.Decides.{nat_tests}
-use Rattle.std.proofs.lemmas.Nat.{mul-le}
 use Rattle.vl_tree.specs.declared.tree.Op.TheVariants.{And, Or, Add, Sub, Equal}
 use Rattle.vl_tree.specs.Values.{Name, Expr, net, bit, two}
 use Rattle.vl_model.specs.declared.kind.Kind.TheVariants.{Register}
@@ -14,10 +13,10 @@ use Rattle.gen_kit.specs.Families.{in_bits}
 use Rattle.leaf_tie.specs.Tie.{HasLink}
 use Rattle.leaf_tie.specs.Glue.{has_port, out_flit}
 use Rattle.leaf_tie.specs.Names.{leaf_names, net_names, port_names, credit_base, leaf_sizes}
-use Rattle.leaf_tie.proofs.Sized.{high-is, place_count-is, in_few}
+use Rattle.leaf_tie.proofs.Sized.{in_few}
 use Rattle.leaf_sound.proofs.Ranked.{at}
 use Rattle.leaf_sound.proofs.Inner.{few-channels, few-links, few-ports}
-use Rattle.leaf_sound.proofs.Typed.{Net, Is, net-is, number-is, bit-is, part-is, not-is, two-is, choose-is, none-are, next-are, cat-is, deeper, wide-as, or-is, row-is, empty-is, less-true}
+use Rattle.leaf_sound.proofs.Typed.{Net, Is, net-is, number-is, bit-is, part-is, not-is, two-is, choose-is, none-are, next-are, cat-is, deeper, wide-as, if-is, or-is, less-true}
 use Rattle.leaf_sound.proofs.Walk.{May, Any}
 use Rattle.leaf_sound.proofs.Domain as facts
 use Rattle.leaf_sound.proofs.Domain.{Wire, ls, by-register, by-rank, reg-in, wire-in}
@@ -31,6 +30,7 @@ use Rattle.leaf_tie.proofs.Grouped.{uses-arriving}
 use Rattle.leaf_tie.proofs.Started.{slot-below}
 use Rattle.leaf_sound.proofs.Bits.{sizes-meet, bits-some}
 use Rattle.leaf_sound.proofs.Shared as shared
+use Rattle.leaf_sound.proofs.SwitchItems as switched
 use Rattle.leaf_sound.proofs.SharedItems.{input-may}
 use Rattle.vl_tree.specs.Values.{word, store}
 use Rattle.vl_tree.specs.declared.tree.Op.TheVariants.{Less}
@@ -48,12 +48,11 @@ use Rattle.leaf_sound.proofs.Inner.{few-ranges}
 use Rattle.std.proofs.lemmas.List.Sums.{sum_by-cons}
 use Rattle.gen_kit.specs.Ports.{name_with}
 use Rattle.gen_kit.specs.Shape.{credit_bits}
-use Rattle.gen_buffer.specs.Fifo.{FifoNames, fifo_moves, fifo_nets}
-use Rattle.leaf_tie.specs.Attach.{attach_group, enter_at, look_nets, looked, reach, room_expr, entry_word}
+use Rattle.gen_buffer.specs.Fifo.{fifo_moves, fifo_nets}
+use Rattle.leaf_tie.specs.Attach.{attach_group, enter_at, in_range, not_above, look_nets, looked, reach, room_expr, entry_word}
 use Rattle.leaf_tie.specs.Buffers.{buffer_group}
 use Rattle.leaf_tie.specs.Glue.{eject_group, link_push, pop_of, attach_names, attach_size, current_high}
 use Rattle.leaf_sound.proofs.Bits.{index-few, count-enough}
-use Rattle.leaf_sound.proofs.Typed.{Are, UseIs, net-known}
 use Rattle.leaf_sound.proofs.Items.{head-assign}
 use Rattle.leaf_sound.proofs.SharedItems.{table-is, route-below}
 
@@ -158,16 +157,21 @@ module _ (p : Plan) (n : ℕ) (sound : IsSound p) (inside : n < tiles p) (d : �
         (omega arith) refl (count-enough p.buffer sound.buffer.1) (good-nil lines)
 
     pub pulse-good : Good lines (pulse_group p leaf_names net_names d o).moves
-    pulse-good = clocked-next lines (facts.pulse p n sound inside d there o link) (net-is lines (Any lines) (facts.granted p n sound inside d there o (let less = link.0 in omega (arith, less))).its tt) (omega arith) refl (pow-pos (link_channels p d - 1 + 1)) (good-nil lines)
+    pulse-good = clocked-next lines (facts.pulse p n sound inside d there o link) (part-is lines (Any lines) (o *
+        (link_channels p d - 1 + 1) + (link_channels p d - 1)) (o * (link_channels p d - 1 + 1))
+        (link_channels p d - 1 + 1) (facts.leaves p n sound inside d there).its tt (omega arith)
+        (switched.part-inside p n sound inside d there o (let less = link.0 in omega (arith, less))) (omega arith))
+        (omega arith) refl (pow-pos (link_channels p d - 1 + 1)) (good-nil lines)
 
   -- the flit that goes by an output
-  out-flit-is : (t : Name) (h r o : ℕ) → Wire lines t h r → at d 9 0 ≤ r → o < ports p → Is lines (May lines t) (out_flit p n leaf_names net_names (dest_bits p) d o) (34 + dest_bits p) 8
-  out-flit-is t h r o x far low =
+  out-flit-is : (t : Name) (h r o : ℕ) → Wire lines t h r → at d 9 0 ≤ r → o < ports p → has_port p n d o ≡ true
+      → Is lines (May lines t) (out_flit p n leaf_names net_names (dest_bits p) d o) (34 + dest_bits p) 8
+  out-flit-is t h r o x far low has =
       let few = few-p in
       let dests = few-dest in
       deeper lines (May lines t) 8 (omega (arith, few))
       (or-is lines (May lines t) (ports p - 1) (34 + dest_bits p) 2 (λ port le.
-      let v = facts.choice-winner p n sound inside d there o (omega (arith, low)) in
+      let v = facts.choice-winner p n sound inside d there o (omega (arith, low)) (λ one. has) in
       choose-is lines (May lines t) (bit-is lines (May lines t) port v.its (by-rank lines t (leaf_names.switch d o).winner r (at d 5 o + 3 + 1) x v.at_rank (omega (arith, far, few, low))) le)
       (flit-of port (has_port p n d port) refl (omega arith))
       (number-is lines (May lines t) (34 + dest_bits p) 0 (omega arith) (omega (arith, dests)) (pow-pos (34 + dest_bits p)))))
@@ -189,19 +193,15 @@ module _ (p : Plan) (n : ℕ) (sound : IsSound p) (inside : n < tiles p) (d : �
       (wide-as lines P (let e : 1 + (channel_bits p + (34 + dest_bits p + 0)) ≡ channel_bits p + flit_bits p + 1 = omega arith in e)
       (cat-is lines P (next-are lines P (deeper lines P 16 (omega (arith, high_links)) (or-is lines P (link_channels p d - 1) 1 1 on))
       (next-are lines P (deeper lines P 16 (omega (arith, high_links)) (or-is lines P (link_channels p d - 1) (channel_bits p) 2 (λ k le. choose-is lines P (on k le) (number-is lines P (channel_bits p) k cb (omega (arith, few)) (omega (arith, fits, low_links, le))) (number-is lines P (channel_bits p) 0 cb (omega (arith, few)) (pow-pos (channel_bits p))))))
-      (next-are lines P (deeper lines P 16 (omega arith) (out-flit-is (net_names.word d (suc o)) (channel_bits p + flit_bits p) (at d 9 (suc o) + 8 + 1) (suc o) t (omega arith) link.0)) (none-are lines P 16)))) (omega arith) (omega (arith, few))))
+      (next-are lines P (deeper lines P 16 (omega arith) (out-flit-is (net_names.word d (suc o))
+      (channel_bits p + flit_bits p) (at d 9 (suc o) + 8 + 1) (suc o) t (omega arith) link.0 link.1))
+      (none-are lines P 16)))) (omega arith) (omega (arith, few))))
       (omega arith) (nets-nil lines)
 
   -- ---- buffers
 
   pop-is : (t : Name) (r port c : ℕ) → Wire lines t 0 r → at d 7 0 + 1 < r → port < ports p → c < link_channels p d → Is lines (May lines t) (pop_of p net_names d port c) 1 1
-  pop-is t r port c x far low less =
-      let l = facts.leaves p n sound inside d there in
-      let more : (port + 1) * link_channels p d ≤ ports p * link_channels p d = mul-le (port + 1) (link_channels p d) (ports p) (link_channels p d) (omega arith) (omega arith) in
-      let split : (port + 1) * link_channels p d ≡ port * link_channels p d + link_channels p d = grind arith in
-      let wide = high-is p d (few-channels p d sound there).0 in
-      let same = facts.places p n sound inside d there in
-      bit-is lines (May lines t) (port * link_channels p d + c) l.its (by-rank lines t (net_names.leaves d) r (at d 7 0 + 0 + 1) x l.at_rank (omega (arith, far))) (omega (arith, more, split, wide, same, less))
+  pop-is t r port c x far low less = switched.leaves-place-is p n sound inside d there port c x far low less
 
   pub link-buffer-nets : (port m c : ℕ) → suc port < ports p → neighbour p n (suc port) ≡ Some m → c < link_channels p d
       → GoodNets lines (buffer_group (leaf_names.buffer d (suc port) c) (leaf_sizes p) (link_push p leaf_names (port_names n) (flit_bits p) (channel_bits p) d (suc port) m c) (pop_of p net_names d (suc port) c)).nets
@@ -323,7 +323,10 @@ module _ (p : Plan) (n : ℕ) (sound : IsSound p) (inside : n < tiles p) (d : �
         (assign-next lines b.pop (pop-is (leaf_names.buffer d 0 c).pop (at d 13 0 + (2 * c + 1) + 1) 0 c b.pop (omega arith) (omega arith) (omega (arith, top, less))) (omega arith) (nets-nil lines))
 
     pub eject-good : GoodNets lines (eject_group p n leaf_names net_names (port_names n) (dest_bits p) d).nets
-    eject-good = let t = facts.eject p n sound inside d there host in net-next lines t (wide-as lines (May lines (net_names.eject d)) (let e : 34 + dest_bits p ≡ 33 + dest_bits p + 1 = omega arith in e) (out-flit-is (net_names.eject d) (33 + dest_bits p) (at d 11 0 + 1 + 1) 0 t (omega arith) (omega arith))) (omega arith) (nets-nil lines)
+    eject-good = let t = facts.eject p n sound inside d there host in net-next lines t (wide-as lines (May lines
+        (net_names.eject d)) (let e : 34 + dest_bits p ≡ 33 + dest_bits p + 1 = omega arith in e) (out-flit-is
+        (net_names.eject d) (33 + dest_bits p) (at d 11 0 + 1 + 1) 0 t (omega arith) (omega arith) host))
+        (omega arith) (nets-nil lines)
 
     pub eject-moves : Good lines (eject_group p n leaf_names net_names (port_names n) (dest_bits p) d).moves
     eject-moves =
@@ -350,6 +353,18 @@ module _ (p : Plan) (n : ℕ) (sound : IsSound p) (inside : n < tiles p) (d : �
     double : (b k : ℕ) → k < 2 ^ b → 2 ^ b + k < 2 ^ (b + 1)
     double b k less = let all : 2 ^ b + k < 2 ^ suc b = omega (arith, less) in subst (λ z. 2 ^ b + k < 2 ^ z) (let e : suc b ≡ b + 1 = omega arith in e) all
 
+    -- whether the address is in the range
+    range-is : (P : Name → Type 0) (address : Name) (r : Range) → Is lines P (net address) 32 1 → r.first < 2 ^ 32
+        → r.last < 2 ^ 32 → Is lines P (in_range address r) 1 4
+    range-is P address r x low high =
+        let first = number-is lines P 32 r.first (omega arith) (omega arith) low in
+        let last = number-is lines P 32 r.last (omega arith) (omega arith) high in
+        let above : Is lines P (not_above address r) 1 3 = if-is lines P (r.last == 2 ^ 32 - 1)
+        (λ top. two-is lines P Or (two-is lines P Less x last) (two-is lines P Equal x last)) (λ more. not-is lines P
+        (two-is lines P Less last x)) in
+        if-is lines P (r.first == 0) (λ zero. deeper lines P 4 (omega arith) above) (λ some. two-is lines P And
+        (not-is lines P (two-is lines P Less x first)) above)
+
     looks-good : (rs : List Range) → length rs ≤ length (reach p d) → AllByRecursion (λ (r : Range). (r.tile < tiles p) × (r.first < 2 ^ 32) × (r.last < 2 ^ 32)) rs → GoodNets lines (look_nets ((port_names n).address d) (net_names.look d) (dest_bits p) rs)
     looks-good [] le all = nets-nil lines
     looks-good (r ∷ rs) le all =
@@ -363,7 +378,7 @@ module _ (p : Plan) (n : ℕ) (sound : IsSound p) (inside : n < tiles p) (d : �
         let here = all.0 in
         let tile = here.0 in
         nets-join lines (looks-good rs (omega arith) all.1)
-        (net-next lines t (choose-is lines P (two-is lines P And (not-is lines P (two-is lines P Less address (number-is lines P 32 r.first (omega arith) (omega arith) here.1))) (not-is lines P (two-is lines P Less (number-is lines P 32 r.last (omega arith) (omega arith) here.2) address)))
+        (net-next lines t (choose-is lines P (range-is P ((port_names n).address d) r address here.1 here.2)
         (deeper lines P 4 (omega arith) (number-is lines P (dest_bits p + 1) (2 ^ dest_bits p + r.tile) (omega arith) (omega (arith, few)) (double (dest_bits p) r.tile (omega (arith, dests, tile)))))
         (deeper lines P 4 (omega arith) (looked-is (net_names.look d (suc (length rs))) (dest_bits p) (at d 11 0 + (1 + suc (length rs)) + 1) (length rs) t (omega arith) (omega arith)))) (omega arith) (nets-nil lines))
 

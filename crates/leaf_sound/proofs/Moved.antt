@@ -10,13 +10,13 @@ use Rattle.gen_kit.specs.Groups.{Group}
 use Rattle.leaf_tie.specs.Alloc.{out_count, alloc_group, active_move}
 use Rattle.leaf_tie.specs.Attach.{attach_group}
 use Rattle.leaf_tie.specs.Buffers.{BufferSize}
-use Rattle.leaf_tie.specs.Switch.{switch_group}
-use Rattle.leaf_tie.specs.Tie.{PortNames, alloc_size}
-use Rattle.leaf_tie.specs.Glue.{switch_names, switch_size, attach_names, attach_size, has_port}
+use Rattle.leaf_tie.specs.Switch.{switch_group, lone_switch_group}
+use Rattle.leaf_tie.specs.Tie.{PortNames, alloc_size, is_lone}
+use Rattle.leaf_tie.specs.Glue.{switch_names, switch_size, switch_part, attach_names, attach_size, has_port}
 use Rattle.leaf_tie.specs.Whole.{before_switch, behind_switch, sent_groups, link_buffers, local_groups, domain_groups}
 use Rattle.leaf_tie.specs.Names.{own, register_tag, leaf_names, net_names, alloc_names}
 use Rattle.leaf_tie.proofs.Sized.{out-link}
-use Rattle.leaf_sound.proofs.Rising.{Rises, nothing, clocked-next, wider, join, each, GroupsRise, no-groups, groups-join, group-next, groups-wider, groups-each, groups-if, groups-neighbour}
+use Rattle.leaf_sound.proofs.Rising.{Rises, nothing, clocked-next, wider, join, each, items-if, GroupsRise, no-groups, groups-join, group-next, group-if, groups-wider, groups-each, groups-if, groups-neighbour}
 use Rattle.leaf_sound.proofs.Ranked.{from, register-rank}
 
 abbrev pub its_moves : Group → List Item
@@ -83,13 +83,27 @@ module _ (p : Plan) (n d : ℕ) (q : PortNames) (base : ℕ → ℕ) (size : Buf
   few-each : ports p - 1 + 1 ≤ 7
   few-each = omega (arith, few_ports)
 
-  switch-moves : Rises (from d 1 0) (from d 3 0) (switch_group (switch_names leaf_names net_names d) (switch_size p d)).moves
-  switch-moves =
+  many-move : Rises (from d 1 0) (from d 3 0) (switch_group (switch_names leaf_names net_names d)
+      (switch_size p d)).moves
+  many-move =
       join (from d 1 0) (from d 2 0) (from d 3 0)
       (wider (from d 1 0) (from d 1 0) (from d 1 (ports p - 1 + 1)) (from d 2 0) (omega arith) (omega (arith, few-each))
       (each (from d 1) (ports p - 1 + 1) (λ o less. last (from d 1 o) (from d 1 (suc o)) 1 o 0 (omega arith) (omega (arith, few-each)) (omega arith) (omega arith) (omega arith))))
       (wider (from d 2 0) (from d 2 0) (from d 2 (ports p - 1 + 1)) (from d 3 0) (omega arith) (omega (arith, few-each))
       (each (from d 2) (ports p - 1 + 1) (λ o less. last (from d 2 o) (from d 2 (suc o)) 2 o 0 (omega arith) (omega (arith, few-each)) (omega arith) (omega arith) (omega arith))))
+
+  lone-moves : Rises (from d 1 0) (from d 3 0)
+      (lone_switch_group (switch_names leaf_names net_names d) (ports p - 1) (has_port p n d)).moves
+  lone-moves =
+      wider (from d 1 0) (from d 1 0) (from d 1 (ports p - 1 + 1)) (from d 3 0) (omega arith) (omega (arith, few-each))
+      (each (from d 1) (ports p - 1 + 1) (λ o less.
+      items-if (from d 1 o) (from d 1 (suc o)) (has_port p n d o)
+      (λ has. last (from d 1 o) (from d 1 (suc o)) 1 o 0 (omega arith) (omega (arith, few-each)) (omega arith)
+      (omega arith) (omega arith))
+      (λ absent. nothing (from d 1 o) (from d 1 (suc o)) (omega arith))))
+
+  switch-moves : Rises (from d 1 0) (from d 3 0) (switch_part p n leaf_names net_names d).moves
+  switch-moves = group-if its_moves (from d 1 0) (from d 3 0) (is_lone p d) (λ one. lone-moves) (λ more. many-move)
 
   -- ---- links, buffers and the attachment
 

@@ -98,6 +98,12 @@ join {a} {b} low middle high x y = record { by = joined low middle high a b x.by
 pub each : {f : ℕ → List Item} (s : ℕ → ℕ) (n : ℕ) → ((k : ℕ) → k < n → Rises (s k) (s (suc k)) (f k)) → Rises (s 0) (s n) (for_each n f)
 each {f} s n h = record { by = each-by s n f (λ k less. (h k less).by) }
 
+-- one list or the other
+pub items-if : {a b : List Item} (low high : ℕ) (c : Bool) → (c ≡ true → Rises low high a)
+    → (c ≡ false → Rises low high b) → Rises low high (if c then a else b)
+items-if low high true x y = x refl
+items-if low high false x y = y refl
+
 -- ---- groups
 
 module _ (part : Group → List Item) where
@@ -120,6 +126,12 @@ module _ (part : Group → List Item) where
 
   pub group-next : {x : Group} {xs : List Group} (low middle high : ℕ) → Rises low middle (part x) → GroupsRise middle high xs → GroupsRise low high (x ∷ xs)
   group-next low middle high a b = record { all = join low middle high a b.all }
+
+  -- one group or the other
+  pub group-if : {x y : Group} (low high : ℕ) (c : Bool) → (c ≡ true → Rises low high (part x))
+      → (c ≡ false → Rises low high (part y)) → Rises low high (part (if c then x else y))
+  group-if low high true a b = a refl
+  group-if low high false a b = b refl
 
   pub groups-wider : {xs : List Group} (low more less high : ℕ) → low ≤ more → less ≤ high → GroupsRise more less xs → GroupsRise low high xs
   groups-wider low more less high below above r = record { all = wider low more less high below above r.all }

@@ -29,7 +29,8 @@ use Rattle.gen_kit.specs.Work.{leaf_name}
 use Rattle.leaf_tie.specs.Names.{leaf_module}
 use Rattle.leaf_sound.proofs.Named.{twice-passes, drivers-pass, joins-pass}
 use Rattle.leaf_sound.proofs.Outs.{ports-all}
-use Rattle.leaf_sound.proofs.Plainly.{pair-plain, triple-plain, last-run, some-digit}
+use Rattle.gen_kit.proofs.Plainly.{last-run, some-digit}
+use Rattle.leaf_sound.proofs.Plainly.{pair-plain, triple-plain}
 use Rattle.leaf_sound.proofs.Shared.{few-word-bits, few-credits}
 use Rattle.leaf_sound.proofs.Inner.{few-ports}
 use Rattle.leaf_sound.proofs.Facts.{LineFound, lines, ports-found}

@@ -1,5 +1,5 @@
 -- Expressions of one width among the lines of a leaf: what they read is known, their widths agree, and they are plain.
-use Rattle.std.proofs.Common.{◌≡◌, ℕ, zero, suc, ◌+◌, ◌-◌, ◌*◌, ◌^◌, ◌<◌, ◌≤◌, true, List, [], ◌++◌, refl, sym, ◌∙◌, ap, subst, arith, Some, nat_lt, nat_le, ◌==◌, if◌then◌else◌}
+use Rattle.std.proofs.Common.{◌≡◌, ℕ, zero, suc, ◌+◌, ◌-◌, ◌*◌, ◌^◌, ◌<◌, ◌≤◌, Bool, true, false, List, [], ◌++◌, refl, sym, ◌∙◌, ap, subst, arith, Some, nat_lt, nat_le, ◌==◌, if◌then◌else◌}
 use Rattle.std.specs.List.{AllByRecursion}
 use Rattle.std.proofs.lemmas.Bool.Decides.{nat_tests}
 use Rattle.vl_tree.specs.declared.tree.Op.{Op}
@@ -9,7 +9,7 @@ use Rattle.vl_tree.specs.Tokens.{is_name}
 use Rattle.vl_tree.specs.Plain.{plain_expr, plain_exprs}
 use Rattle.vl_model.specs.Meaning.{Use, op_width, width_of, widths_of, agrees, all_agree, nets_of, parts_nets, uses_of, parts_uses}
 use Rattle.vl_model.specs.declared.kind.Kind.{Kind}
-use Rattle.vl_model.specs.Lines.{Line, Declared, lookup, is_net, is_memory, net_bits, widths, word_count, kind_passes}
+use Rattle.vl_model.specs.Lines.{Line, lookup, is_net, is_memory, net_bits, widths, word_count, kind_passes}
 use Rattle.vl_model.specs.Rules.{is_kind}
 use Rattle.vl_model.proofs.Together.{all-join}
 use Rattle.gen_kit.specs.Families.{in_bits, or_upto, row_parts}
@@ -193,6 +193,12 @@ module _ (lines : List Line) where
 
     pub wide-as : {e : Expr} {k j d : ℕ} → k ≡ j → Is P e k d → Is P e j d
     wide-as {e} {k} {j} {d} is x = subst (λ z. Is P e z d) is x
+
+    -- one or the other
+    pub if-is : {a b : Expr} {k d : ℕ} (c : Bool) → (c ≡ true → Is P a k d) → (c ≡ false → Is P b k d)
+        → Is P (if c then a else b) k d
+    if-is true x y = x refl
+    if-is false x y = y refl
 
     -- families
     pub or-is : {f : ℕ → Expr} (n k d : ℕ) → ((i : ℕ) → i ≤ n → Is P (f i) k d) → Is P (or_upto n f) k (d + n)

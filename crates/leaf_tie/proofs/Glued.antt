@@ -17,37 +17,38 @@ use Rattle.noc_model.specs.Place.{neighbour, opposite, owner, route}
 use Rattle.noc_model.specs.Sound.{IsSound}
 use Rattle.noc_model.specs.SoundState.{HasOutput, IsOutput, IsSoundTile, GoesHome}
 use Rattle.noc_model.specs.Tile.{Tile, TileIn}
-use Rattle.noc_model.specs.Step.{chosen as picked_port, is_place, takes, is_ready, is_ready_at, leaves, front, is_tail, comes_in, entry, word_in, flit_on, next_ejected, sent, is_on, is_tail_on, tile_step}
+use Rattle.noc_model.specs.Step.{chosen as picked_port, is_place, takes, is_ready, is_ready_at, leaves, front, is_tail, comes_in, entry, word_in, flit_on, next_ejected, sent, is_on, is_tail_on, waits_for, tile_step}
 use Rattle.noc_model.proofs.Coords.{positive}
 use Rattle.noc_model.specs.declared.Grant.{Grant}
 use Rattle.noc_model.proofs.Switch.{chosen-inside}
 use Rattle.noc_model.proofs.Ports.{link-dim, linked-port}
 use Rattle.noc_model.proofs.StateKept.{some-channels}
 use Rattle.noc_model.proofs.TileKept.{tile_step-sound}
-use Rattle.gen_kit.specs.Groups.{HoldsIn}
+use Rattle.gen_kit.specs.Groups.{Group, HoldsIn}
 use Rattle.gen_kit.specs.Masks.{mask}
 use Rattle.gen_kit.specs.Rotate.{PointsTo}
-use Rattle.gen_kit.specs.Families.{in_bits, or_upto}
+use Rattle.gen_kit.specs.Families.{in_bits, or_upto, defined}
 use Rattle.gen_kit.specs.Mux.{gated_words}
 use Rattle.gen_kit.proofs.Muxed.{mux-shown}
 use Rattle.leaf_tie.specs.Places.{stage_at, queue_at, is_active, is_idle, is_led, leaves_at, ends_at}
 use Rattle.leaf_tie.specs.Alloc.{AllocIn, AllocTie, out_count}
-use Rattle.leaf_tie.specs.Switch.{goes_by, ready_for, ReadyIn, SwitchIn, place_count}
+use Rattle.leaf_tie.specs.Switch.{goes_by, ready_for, ReadyIn, SwitchIn, LoneIn, switch_group, lone_switch_group, place_count}
 use Rattle.leaf_tie.specs.Buffers.{BufferSize, BufferTie, is_filled, link_code}
-use Rattle.leaf_tie.specs.Tie.{LeafNames, PortNames, HasLink, HasPort, HasPlace, alloc_size, DomainTie, LeafIn, PortIn, word_code, flit_code, ejected_code, IsWord, PacketTie}
+use Rattle.leaf_tie.specs.Tie.{LeafNames, PortNames, HasLink, HasPort, HasPlace, alloc_size, DomainTie, LeafIn, PortIn, word_code, flit_code, ejected_code, IsWord, PacketTie, is_lone}
 use Rattle.leaf_tie.specs.Attach.{AttachIn, enter_at}
 use Rattle.leaf_tie.proofs.Attached.{pushes, word-is, packet-kept, current-kept, dropped-kept}
 use Rattle.noc_model.specs.declared.plan.DomainPart.{DomainPart}
-use Rattle.leaf_tie.specs.Glue.{attach_names, attach_size, current_high, NetNames, switch_names, switch_size, high, out_high, arrival_group, route_bits, has_port, has_place, front_bits, port_flit, out_flit, out_channel, able, some_active, DomainRuns, SlotsShown, GlueFits, link_push, pop_of}
+use Rattle.leaf_tie.specs.Glue.{attach_names, attach_size, current_high, NetNames, switch_names, switch_size, high, out_high, arrival_group, route_bits, has_port, has_place, front_bits, port_flit, out_flit, out_channel, able, some_active, DomainRuns, SlotsShown, GlueFits, link_push, pop_of, leaves_place, Moves}
 use Rattle.gen_kit.proofs.Sets.{mask-same, mask-and, mask-none, mask-bit}
 use Rattle.gen_kit.proofs.Families.{rows-shown, bit-or, or-bits}
 use Rattle.leaf_tie.proofs.Allocated.{alloc-kept}
 use Rattle.leaf_tie.proofs.Switched.{ready-shown}
-use Rattle.leaf_tie.proofs.Granted.{choice-shown, leaves-grant, leaves-shown, granted-shown, turns-kept, choices-kept}
+use Rattle.leaf_tie.proofs.Granted.{port-shown, choice-shown, leaves-grant, leaves-shown, turns-kept, choices-kept}
+use Rattle.leaf_tie.proofs.Lone.{lone-shown, lone-leaves, lone-kept}
 use Rattle.leaf_tie.proofs.Sent.{on-shown, freed-shown, left, sent-from, chosen-sends, none-sent}
 use Rattle.leaf_tie.proofs.Counted.{idle-kept, credit-kept}
 use Rattle.leaf_tie.proofs.Buffered.{buffer-kept, arrival-pushes, bit-and, length-map}
-use Rattle.leaf_tie.proofs.Sized.{high-is, place_count-is, in_few, out-link, fits-output, some-link-channels}
+use Rattle.leaf_tie.proofs.Sized.{high-is, place_count-is, in_few, out-link, fits-output, some-link-channels, port-has}
 use Rattle.leaf_tie.proofs.Homes.{away-home, host-tile}
 use Rattle.gen_buffer.specs.Fifo.{fifo_items, WordsAre}
 use Rattle.vl_model.specs.Parts.{AllHold}
@@ -69,6 +70,11 @@ port-link p n o link e = go (neighbour p n o) refl link.1
     go : (m : Option ℕ) → neighbour p n o ≡ m → is_some m ≡ true → ⊥
     go None is f = cc f
     go (Some m) is f = linked-port p n o m is e
+
+-- a link is a port of each domain
+link-port : (p : Plan) (n d o : ℕ) → HasLink p n o → HasPort p n d o
+link-port p n d zero link = absurd (port-link p n 0 link refl)
+link-port p n d (suc o) link = link
 
 port-there : (p : Plan) (n d o : ℕ) → o < ports p → HasPort p n d o ⊎ (HasPort p n d o → ⊥)
 port-there p n d zero below = go (hosts p n d) refl
@@ -140,9 +146,9 @@ abbrev sent_code : ℕ → Option LinkFlit → ℕ
 sent_code dest_bits None = 0
 sent_code dest_bits (Some x) = flit_code dest_bits x.flit
 
-pub port-has : (p : Plan) (n d port : ℕ) → HasPort p n d port → has_port p n d port ≡ true
-port-has p n d zero h = h
-port-has p n d (suc port) h = h.1
+pub has-port : (p : Plan) (n d port : ℕ) → port < ports p → has_port p n d port ≡ true → HasPort p n d port
+has-port p n d zero below h = h
+has-port p n d (suc port) below h = (below, h)
 
 -- one channel of a port is left at most
 leaves-one : (p : Plan) (d n : ℕ) (t : ℤ) (s : Tile) (i : TileIn) (port c k : ℕ) → leaves p d n t s i port c ≡ true → leaves p d n t s i port k ≡ is_place (Some c) k
@@ -334,15 +340,50 @@ module _ (p : Plan) (n d : ℕ) (names : LeafNames) (nets : NetNames) (q : PortN
         omega (arith, below, at, is));
   }
 
-  switch-in : SwitchIn p d n (switch_names names nets d) (switch_size p d) v (pos t) (s d) (i d)
-  switch-in = record {
+  ready-is : (o : ℕ) → HasPort p n d o → v.net (nets.ready d o) ≡ mask (high p d + 1) (ready_for p d n (pos t) (s d) (i d) o)
+  ready-is o port =
+      (runs.ready o port).nets.1.0
+      ∙ ready-shown p d n o (nets.filled d) (names.alloc d o).active (able p n names q size d o) (high p d) (out_high p d o) w v (pos t) (s d) (i d) (ready-in o port)
+
+  nothing-beyond : (port c : ℕ) → in_channels p d port ≤ c → is_ready p d n (pos t) (s d) (i d) port c ≡ false
+  nothing-beyond port c le = let gone = tie.absent port c (λ h. (let below = h.1 in omega (arith, le, below))) in ap (is_ready_at p d n (pos t) (s d) (i d) ((s d).queue port c)) gone.1
+
+  -- the output that a place is active on is there
+  active-there : (port c o x : ℕ) → (s d).stage port c ≡ Active o x → (o < ports p) × HasPort p n d o
+  active-there port c o x e = (below, go (port-there p n d o below))
+    where
+      below : o < ports p
+      below = output-there p n o (active-out p d n ((s d).stage port c) o x (tie.sound.stages port c) e)
+
+      self : (o == o) ≡ true
+      self = grind (arith, nat_tests)
+
+      go : HasPort p n d o ⊎ (HasPort p n d o → ⊥) → HasPort p n d o
+      go (inl port_there) = port_there
+      go (inr absent) = absurd (cc (sym (ap (λ st. goes_by st o) e ∙ self) ∙ not-there o below absent port c))
+
+  lone-high : is_lone p d ≡ true → high p d + 1 ≡ ports p
+  lone-high is =
+      let one : link_channels p d ≡ 1 = grind (arith, nat_tests, is) in
+      high-is p d some ∙ ap (λ k. ports p * k) one ∙ omega arith
+
+  lone-in : is_lone p d ≡ true → LoneIn p d n (switch_names names nets d) (has_port p n d) v (pos t) (s d) (i d)
+  lone-in is = record {
+    one_channel = grind (arith, nat_tests, is);
+    readies = λ o below e. ready-is o (has-port p n d o below e) ∙ ap (λ m. mask m (ready_for p d n (pos t) (s d) (i d) o)) (lone-high is);
+    choices = λ o below e. tie.switches o below (λ f. has-port p n d o below e);
+    outputs = λ port c o x e. (let at = active-there port c o x e in (at.0, port-has p n d o at.1));
+  }
+
+  switch-in : is_lone p d ≡ false → SwitchIn p d n (switch_names names nets d) (switch_size p d) v (pos t) (s d) (i d)
+  switch-in more = record {
     port_count = omega arith;
     channel_count = let l = some-link-channels p d some in omega arith;
     readies = λ o le. ready o (omega (arith, le)) (port-there p n d o (omega (arith, le)));
-    turns = λ port le. tie.turns port (omega (arith, le));
-    choices = λ o le. tie.switches o (omega (arith, le));
+    turns = λ port le. tie.turns more port (omega (arith, le));
+    choices = λ o le. tie.switches o (omega (arith, le)) (λ is. absurd (cc (sym is ∙ more)));
     outputs = λ port c o x e. (let below = output-there p n o (active-out p d n ((s d).stage port c) o x (tie.sound.stages port c) e) in omega (arith, below));
-    beyond = λ port c le. (let gone = tie.absent port c (λ h. (let below = h.1 in omega (arith, le, below))) in ap (is_ready_at p d n (pos t) (s d) (i d) ((s d).queue port c)) gone.1);
+    beyond = nothing-beyond;
     few = in_few p d;
   }
     where
@@ -350,18 +391,42 @@ module _ (p : Plan) (n d : ℕ) (names : LeafNames) (nets : NetNames) (q : PortN
       wide = place_count-is p d some
 
       ready : (o : ℕ) → o < ports p → HasPort p n d o ⊎ (HasPort p n d o → ⊥) → v.net (nets.ready d o) ≡ mask (place_count (switch_size p d)) (ready_for p d n (pos t) (s d) (i d) o)
-      ready o below (inl port) =
-          (runs.ready o port).nets.1.0
-          ∙ ready-shown p d n o (nets.filled d) (names.alloc d o).active (able p n names q size d o) (high p d) (out_high p d o) w v (pos t) (s d) (i d) (ready-in o port)
-          ∙ ap (λ m. mask m (ready_for p d n (pos t) (s d) (i d) o)) (sym wide)
+      ready o below (inl port) = ready-is o port ∙ ap (λ m. mask m (ready_for p d n (pos t) (s d) (i d) o)) (sym wide)
       ready o below (inr absent) =
-          (runs.unready o below absent).nets.1.0
+          (subst (λ b. AllHold w v (if b then [] else defined (high p d) (nets.ready d o) (in_bits (high p d + 1) 0))) more (runs.unready o below absent).nets).1.0
           ∙ sym (mask-none (place_count (switch_size p d)) (ready_for p d n (pos t) (s d) (i d) o) (λ place b. ap (λ x. x && is_ready p d n (pos t) (s d) (i d) (place / link_channels p d) (place % link_channels p d)) (not-there o below absent (place / link_channels p d) (place % link_channels p d))))
 
   leaves-is : v.net (nets.leaves d) ≡ mask (high p d + 1) (leaves_at p d n (pos t) (s d) (i d))
-  leaves-is =
-      leaves-shown p d n (switch_names names nets d) (switch_size p d) w v (pos t) (s d) (i d) runs.switch.now switch-in
-      ∙ ap (λ m. mask m (leaves_at p d n (pos t) (s d) (i d))) (place_count-is p d some)
+  leaves-is = go (is_lone p d) refl runs.switch.now
+    where
+      go : (b : Bool) → is_lone p d ≡ b → HoldsIn (if b then lone_switch_group (switch_names names nets d) (ports p - 1) (has_port p n d) else switch_group (switch_names names nets d) (switch_size p d)) w v
+          → v.net (nets.leaves d) ≡ mask (high p d + 1) (leaves_at p d n (pos t) (s d) (i d))
+      go true is h =
+          let all : ports p - 1 + 1 ≡ high p d + 1 = (let e = lone-high is in omega (arith, e)) in
+          lone-leaves p d n (switch_names names nets d) (has_port p n d) w v (pos t) (s d) (i d) h (lone-in is) ∙ ap (λ m. mask m (leaves_at p d n (pos t) (s d) (i d))) all
+      go false is h =
+          leaves-shown p d n (switch_names names nets d) (switch_size p d) w v (pos t) (s d) (i d) h (switch-in is)
+          ∙ ap (λ m. mask m (leaves_at p d n (pos t) (s d) (i d))) (place_count-is p d some)
+
+  pop-is : (port c : ℕ) → HasPlace p n d port c → v.net (nets.leaves d) / 2 ^ (port * link_channels p d + c) % 2 ≡ one_if (leaves p d n (pos t) (s d) (i d) port c)
+  pop-is port c place =
+      rw leaves-is (mask-bit (high p d + 1) (port * link_channels p d + c) (leaves_at p d n (pos t) (s d) (i d)) inside)
+      ∙ ap one_if (ap (λ k. leaves p d n (pos t) (s d) (i d) k ((port * link_channels p d + c) % link_channels p d)) (row-of (link_channels p d) port c few) ∙ ap (leaves p d n (pos t) (s d) (i d) port) (channel-of (link_channels p d) port c few))
+    where
+      few : c < link_channels p d
+      few = let a = place.1 in let b = in_few p d port in omega (arith, a, b)
+
+      below : (port : ℕ) → HasPort p n d port → port < ports p
+      below zero h = omega arith
+      below (suc k) h = h.0
+
+      inside : port * link_channels p d + c < high p d + 1
+      inside =
+          let at = below port place.0 in
+          let more : (port + 1) * link_channels p d ≤ ports p * link_channels p d = mul-le (port + 1) (link_channels p d) (ports p) (link_channels p d) (omega (arith, at)) (omega arith) in
+          let parts : (port + 1) * link_channels p d ≡ port * link_channels p d + link_channels p d = grind arith in
+          let all = high-is p d some in
+          omega (arith, few, more, parts, all)
 
   ends-is : v.net (nets.ends d) ≡ mask (high p d + 1) (ends_at p d n (pos t) (s d) (i d))
   ends-is = runs.ends.nets.1.0 ∙ rw (leaves-is, tails-are) (mask-and (high p d + 1) (leaves_at p d n (pos t) (s d) (i d)) (λ place. is_tail (front (queue_at p d (s d) place))))
@@ -391,6 +456,7 @@ module _ (p : Plan) (n d : ℕ) (names : LeafNames) (nets : NetNames) (q : PortN
     ends_width = ap w.net (runs.one_ends o) ∙ runs.ends.nets.0.0;
     freed = freed-is o port;
     freed_width = (runs.freed o port).nets.0.0 ∙ some-out p d o some;
+    beyond = λ place out. ap (λ st. waits_for st o) (tie.absent (place / link_channels p d) (place % link_channels p d) (λ h. (let below = h.1 in grind (arith, nat_tests, below, out)))).1;
   }
 
   outputs-kept : (o : ℕ) → HasPort p n d o → AllocTie p d o (names.alloc d o) (alloc_size p d o) u next
@@ -401,15 +467,23 @@ module _ (p : Plan) (n d : ℕ) (names : LeafNames) (nets : NetNames) (q : PortN
 
   -- ---- pointers, idle places, credits, pulses
 
-  switches-kept : (o : ℕ) → o < ports p → PointsTo (names.switch d o) (ports p - 1) u (next.switch o)
-  unfolding next
-  switches-kept o below =
-      choices-kept p d n (switch_names names nets d) (switch_size p d) w v u runs.switch.now runs.switch.later runs.switch.steps (pos t) (s d) (i d) switch-in o (omega arith)
+  -- the switch over the edge
+  abbrev switch_if : Bool → Group
+  switch_if b = if b then lone_switch_group (switch_names names nets d) (ports p - 1) (has_port p n d) else switch_group (switch_names names nets d) (switch_size p d)
 
-  ports-turns-kept : (port : ℕ) → port < ports p → PointsTo (names.turn d port) (link_channels p d - 1) u (next.turn port)
+  switches-kept : (o : ℕ) → o < ports p → (is_lone p d ≡ true → HasPort p n d o) → PointsTo (names.switch d o) (ports p - 1) u (next.switch o)
   unfolding next
-  ports-turns-kept port below =
-      turns-kept p d n (switch_names names nets d) (switch_size p d) w v u runs.switch.now runs.switch.later runs.switch.steps (pos t) (s d) (i d) switch-in port (omega arith)
+  switches-kept o below port = go (is_lone p d) refl runs.switch
+    where
+      go : (b : Bool) → is_lone p d ≡ b → Moves (switch_if b) w v u → PointsTo (names.switch d o) (ports p - 1) u ((tile_step p d n (pos t) (s d) (i d)).switch o)
+      go true is run = lone-kept p d n (switch_names names nets d) (has_port p n d) w v (pos t) (s d) (i d) run.now (lone-in is) u run.steps o below (port-has p n d o (port is))
+      go false is run = choices-kept p d n (switch_names names nets d) (switch_size p d) w v u run.now run.later run.steps (pos t) (s d) (i d) (switch-in is) o (omega arith)
+
+  ports-turns-kept : is_lone p d ≡ false → (port : ℕ) → port < ports p → PointsTo (names.turn d port) (link_channels p d - 1) u (next.turn port)
+  unfolding next
+  ports-turns-kept more port below =
+      let run : Moves (switch_if false) w v u = subst (λ b. Moves (switch_if b) w v u) more runs.switch in
+      turns-kept p d n (switch_names names nets d) (switch_size p d) w v u run.now run.later run.steps (pos t) (s d) (i d) (switch-in more) port (omega arith)
 
   places-idle : u.net (names.idle d) ≡ mask (ports p * link_channels p d) (λ place. is_idle (stage_at p d next place))
   unfolding next
@@ -440,12 +514,17 @@ module _ (p : Plan) (n d : ℕ) (names : LeafNames) (nets : NetNames) (q : PortN
   unfolding next tile_step
   pulses-kept port link =
       (runs.pulses port link).steps.moves.0
-      ∙ granted-shown p d n (switch_names names nets d) (switch_size p d) w v (pos t) (s d) (i d) runs.switch.now switch-in port (let below = link.0 in omega (arith, below))
+      ∙ port-shown (switch_size p d) w v (nets.leaves d) (leaves p d n (pos t) (s d) (i d)) port (let below = link.0 in omega (arith, below)) shown
       ∙ ap (λ m. mask m (leaves p d n (pos t) (s d) (i d) port)) wide
       ∙ mask-same (link_channels p d) _ _ (λ c below. outside port (port-link p n port link) c)
     where
       wide : link_channels p d - 1 + 1 ≡ link_channels p d
       wide = let l = some-link-channels p d some in omega (arith, l)
+
+      shown : v.net (nets.leaves d) ≡ mask (place_count (switch_size p d)) (λ place. leaves p d n (pos t) (s d) (i d) (place / (link_channels p d - 1 + 1)) (place % (link_channels p d - 1 + 1)))
+      shown =
+          leaves-is ∙ ap (λ k. mask (high p d + 1) (λ place. leaves p d n (pos t) (s d) (i d) (place / k) (place % k))) (sym wide)
+          ∙ ap (λ m. mask m (λ place. leaves p d n (pos t) (s d) (i d) (place / (link_channels p d - 1 + 1)) (place % (link_channels p d - 1 + 1)))) (sym (place_count-is p d some))
 
       outside : (port : ℕ) → port ≢ 0 → (c : ℕ) → leaves p d n (pos t) (s d) (i d) port c ≡ at_local port false (leaves p d n (pos t) (s d) (i d) port c)
       outside zero link_here c = absurd (link_here refl)
@@ -465,7 +544,7 @@ module _ (p : Plan) (n d : ℕ) (names : LeafNames) (nets : NetNames) (q : PortN
   flit-is : (port c : ℕ) (f : Flit) → leaves p d n (pos t) (s d) (i d) port c ≡ true → front ((s d).queue port c) ≡ Some f → port < ports p → v.net (nets.flit d port) ≡ flit_code dest_bits f
   flit-is port c f gone is below =
       (runs.flits port place.0).nets.1.0
-      ∙ (mux-shown w v (34 + dest_bits) (λ k. bit (nets.granted d port) k) (λ k. part (names.buffer d port k).front (33 + dest_bits) 0) (in_channels p d port - 1) (Some c)
+      ∙ (mux-shown w v (34 + dest_bits) (leaves_place p nets d port) (λ k. part (names.buffer d port k).front (33 + dest_bits) 0) (in_channels p d port - 1) (Some c)
       (λ j e. (let same : c ≡ j = cc e in omega (arith, same, few))) bits).0 c refl
       ∙ ap (λ x. x / 2 ^ 0 % 2 ^ (33 + dest_bits - 0 + 1)) (front-is port c f fs.0 place fs.1)
       ∙ (let fit = small port c f fs.0 fs.1 in flit-part p n dest_bits f fit.0 fit.1)
@@ -479,30 +558,31 @@ module _ (p : Plan) (n d : ℕ) (names : LeafNames) (nets : NetNames) (q : PortN
       few : c < in_channels p d port
       few = place.1
 
-      bits : (k : ℕ) → k ≤ in_channels p d port - 1 → v.net (nets.granted d port) / 2 ^ k % 2 ≡ one_if (is_place (Some c) k)
-      bits k le =
-          let l = some-link-channels p d some in
-          let within = in_few p d port in
-          let inside : k < link_channels p d - 1 + 1 = omega (arith, l, within, le) in
-          ap (λ m. m / 2 ^ k % 2) (granted-shown p d n (switch_names names nets d) (switch_size p d) w v (pos t) (s d) (i d) runs.switch.now switch-in port (omega (arith, below)))
-          ∙ mask-bit (link_channels p d - 1 + 1) k (leaves p d n (pos t) (s d) (i d) port) inside
-          ∙ ap one_if (leaves-one p d n (pos t) (s d) (i d) port c k gone)
+      bits : (k : ℕ) → k ≤ in_channels p d port - 1 → v.net (nets.leaves d) / 2 ^ (port * link_channels p d + k) % 2 ≡ one_if (is_place (Some c) k)
+      bits k le = pop-is port k (place.0, omega (arith, few, le)) ∙ ap one_if (leaves-one p d n (pos t) (s d) (i d) port c k gone)
 
-  out-flit-bits : (o : ℕ) → o < ports p → (k : ℕ) → k ≤ ports p - 1 → v.net (names.switch d o).winner / 2 ^ k % 2 ≡ one_if (is_place (picked_port p d n (pos t) (s d) (i d) o) k)
-  out-flit-bits o below k le =
-      ap (λ m. m / 2 ^ k % 2) (choice-shown p d n (switch_names names nets d) (switch_size p d) w v (pos t) (s d) (i d) runs.switch.now switch-in o (omega (arith, below)))
+  winner-is : (o : ℕ) → o < ports p → HasPort p n d o → v.net (names.switch d o).winner ≡ mask (ports p - 1 + 1) (is_place (picked_port p d n (pos t) (s d) (i d) o))
+  winner-is o below port = go (is_lone p d) refl runs.switch.now
+    where
+      go : (b : Bool) → is_lone p d ≡ b → HoldsIn (switch_if b) w v → v.net (names.switch d o).winner ≡ mask (ports p - 1 + 1) (is_place (picked_port p d n (pos t) (s d) (i d) o))
+      go true is h = lone-shown p d n (switch_names names nets d) (has_port p n d) w v (pos t) (s d) (i d) h (lone-in is) o below (port-has p n d o port)
+      go false is h = choice-shown p d n (switch_names names nets d) (switch_size p d) w v (pos t) (s d) (i d) h (switch-in is) o (omega (arith, below))
+
+  out-flit-bits : (o : ℕ) → o < ports p → HasPort p n d o → (k : ℕ) → k ≤ ports p - 1 → v.net (names.switch d o).winner / 2 ^ k % 2 ≡ one_if (is_place (picked_port p d n (pos t) (s d) (i d) o) k)
+  out-flit-bits o below port k le =
+      ap (λ m. m / 2 ^ k % 2) (winner-is o below port)
       ∙ mask-bit (ports p - 1 + 1) k (is_place (picked_port p d n (pos t) (s d) (i d) o)) (omega (arith, le))
 
   -- the flit that goes by an output
-  out-flit-is : (o : ℕ) → o < ports p → value_of w v (out_flit p n names nets dest_bits d o) ≡ sent_code dest_bits (sent p d n (pos t) (s d) (i d) o)
-  out-flit-is o below = go (picked_port p d n (pos t) (s d) (i d) o) refl
+  out-flit-is : (o : ℕ) → o < ports p → HasPort p n d o → value_of w v (out_flit p n names nets dest_bits d o) ≡ sent_code dest_bits (sent p d n (pos t) (s d) (i d) o)
+  out-flit-is o below there_port = go (picked_port p d n (pos t) (s d) (i d) o) refl
     where
       inside : (j : ℕ) → picked_port p d n (pos t) (s d) (i d) o ≡ Some j → j ≤ ports p - 1
       inside j e = let few = chosen-inside p d n (pos t) (s d) (i d) o j e in omega (arith, few)
 
       shown : ((j : ℕ) → picked_port p d n (pos t) (s d) (i d) o ≡ Some j → value_of w v (out_flit p n names nets dest_bits d o) ≡ value_of w v (port_flit p n nets dest_bits d j))
           × (picked_port p d n (pos t) (s d) (i d) o ≡ None → value_of w v (out_flit p n names nets dest_bits d o) ≡ 0)
-      shown = mux-shown w v (34 + dest_bits) (λ port. bit (names.switch d o).winner port) (port_flit p n nets dest_bits d) (ports p - 1) (picked_port p d n (pos t) (s d) (i d) o) inside (out-flit-bits o below)
+      shown = mux-shown w v (34 + dest_bits) (λ port. bit (names.switch d o).winner port) (port_flit p n nets dest_bits d) (ports p - 1) (picked_port p d n (pos t) (s d) (i d) o) inside (out-flit-bits o below there_port)
 
       go : (x : Option ℕ) → picked_port p d n (pos t) (s d) (i d) o ≡ x → value_of w v (out_flit p n names nets dest_bits d o) ≡ sent_code dest_bits (sent p d n (pos t) (s d) (i d) o)
       go None e = shown.1 e ∙ sym (ap (sent_code dest_bits) (none-sent p d n (pos t) (s d) (i d) o e))
@@ -543,7 +623,7 @@ module _ (p : Plan) (n d : ℕ) (names : LeafNames) (nets : NetNames) (q : PortN
       ∙ cat-three w v (or_upto (link_channels p d - 1) (λ k. net (nets.on d o k))) (out_channel p nets link_channel d o) (out_flit p n names nets dest_bits d o) link_channel link_flit
       (or-wide w (gated_words link_channel (λ k. net (nets.on d o k)) (in_bits link_channel)) (link_channels p d - 1)) (out-flit-wide o ∙ sym fits.flits)
       ∙ ap (λ m. m * 2 ^ (link_channel + link_flit) + (value_of w v (out_channel p nets link_channel d o) * 2 ^ link_flit + value_of w v (out_flit p n names nets dest_bits d o))) any
-      ∙ ap (λ m. one_if (is_some (sent p d n (pos t) (s d) (i d) o)) * 2 ^ (link_channel + link_flit) + (value_of w v (out_channel p nets link_channel d o) * 2 ^ link_flit + m)) (out-flit-is o link.0)
+      ∙ ap (λ m. one_if (is_some (sent p d n (pos t) (s d) (i d) o)) * 2 ^ (link_channel + link_flit) + (value_of w v (out_channel p nets link_channel d o) * 2 ^ link_flit + m)) (out-flit-is o link.0 (link-port p n d o link))
       ∙ go (sent p d n (pos t) (s d) (i d) o) refl
     where
       l : 0 < link_channels p d
@@ -601,7 +681,7 @@ module _ (p : Plan) (n d : ℕ) (names : LeafNames) (nets : NetNames) (q : PortN
           cat-three w v (in_bits 1 1) (part (nets.eject d) (33 + dest_bits) (32 + dest_bits)) (part (nets.eject d) 31 0) 2 32 wide refl
 
       out : v.net (nets.eject d) ≡ sent_code dest_bits (sent p d n (pos t) (s d) (i d) 0)
-      out = (runs.eject h).now.nets.1.0 ∙ out-flit-is 0 (omega arith)
+      out = (runs.eject h).now.nets.1.0 ∙ out-flit-is 0 (omega arith) h
 
       on : (x : Option LinkFlit) → sent p d n (pos t) (s d) (i d) 0 ≡ x → v.net (nets.on d 0 0) ≡ one_if (is_on x 0)
       on x e = on-local-is h ∙ ap (λ y. one_if (is_on y 0)) e
@@ -638,26 +718,6 @@ module _ (p : Plan) (n d : ℕ) (names : LeafNames) (nets : NetNames) (q : PortN
           subst IsWord same (small from.port from.c x.flit fs.0 fs.1).1
 
   -- ---- buffers
-
-  pop-is : (port c : ℕ) → HasPlace p n d port c → v.net (nets.leaves d) / 2 ^ (port * link_channels p d + c) % 2 ≡ one_if (leaves p d n (pos t) (s d) (i d) port c)
-  pop-is port c place =
-      rw leaves-is (mask-bit (high p d + 1) (port * link_channels p d + c) (leaves_at p d n (pos t) (s d) (i d)) inside)
-      ∙ ap one_if (ap (λ k. leaves p d n (pos t) (s d) (i d) k ((port * link_channels p d + c) % link_channels p d)) (row-of (link_channels p d) port c few) ∙ ap (leaves p d n (pos t) (s d) (i d) port) (channel-of (link_channels p d) port c few))
-    where
-      few : c < link_channels p d
-      few = let a = place.1 in let b = in_few p d port in omega (arith, a, b)
-
-      below : (port : ℕ) → HasPort p n d port → port < ports p
-      below zero h = omega arith
-      below (suc k) h = h.0
-
-      inside : port * link_channels p d + c < high p d + 1
-      inside =
-          let at = below port place.0 in
-          let more : (port + 1) * link_channels p d ≤ ports p * link_channels p d = mul-le (port + 1) (link_channels p d) (ports p) (link_channels p d) (omega (arith, at)) (omega arith) in
-          let parts : (port + 1) * link_channels p d ≡ port * link_channels p d + link_channels p d = grind arith in
-          let all = high-is p d some in
-          omega (arith, few, more, parts, all)
 
   room : (port c : ℕ) → is_filled (comes_in p d (s d) (i d) port c) ≡ true → length ((s d).queue port c) < p.buffer
   room port c e = comes-room p n d (s d) (i d) port c may e

@@ -65,7 +65,7 @@ part-within z port le =
     omega arith
 
 -- a port's part of a vector of pairs
-port-shown : (z : SwitchSize) (w : Widths) (v : Values) (n : Name) (f : ℕ → ℕ → Bool) (port : ℕ) → port ≤ z.last → v.net n ≡ mask (place_count z) (λ place. f (place / (z.channel + 1)) (place % (z.channel + 1)))
+pub port-shown : (z : SwitchSize) (w : Widths) (v : Values) (n : Name) (f : ℕ → ℕ → Bool) (port : ℕ) → port ≤ z.last → v.net n ≡ mask (place_count z) (λ place. f (place / (z.channel + 1)) (place % (z.channel + 1)))
     → value_of w v (port_part z n port) ≡ mask (z.channel + 1) (f port)
 port-shown z w v n f port le e =
     let width : port * (z.channel + 1) + z.channel - port * (z.channel + 1) + 1 ≡ z.channel + 1 = omega arith in
@@ -125,7 +125,7 @@ any-ready p d n t s i last place few = go (is_ready p d n t s i (place / link_ch
         ∙ any-lone last o (λ m. (o == m) && true) (few o at.1 at.2) (λ k other. (let differ : (o == k) ≡ false = grind (arith, nat_tests) in rw differ refl))
         ∙ rw self refl
 
-picked-below : (p : Plan) (d n : ℕ) (t : ℤ) (s : Tile) (i : TileIn) (port k : ℕ) → picked p d n t s i port ≡ Some k → k < in_channels p d port
+pub picked-below : (p : Plan) (d n : ℕ) (t : ℤ) (s : Tile) (i : TileIn) (port k : ℕ) → picked p d n t s i port ≡ Some k → k < in_channels p d port
 unfolding picked
 picked-below p d n t s i port k e = (pick-member (in_channels p d port) (is_ready p d n t s i port) (s.turn port) k e).0
 
@@ -263,7 +263,7 @@ granted-below p d n t s i port k e = go (grant p d n t s i port) refl e
         let same : g.channel ≡ k = cc in
         omega (arith, ready.in_range, same)
 
-switched-below : (p : Plan) (d n : ℕ) (t : ℤ) (s : Tile) (i : TileIn) (o k : ℕ) → switched p d n t s i o ≡ Some k → k < ports p
+pub switched-below : (p : Plan) (d n : ℕ) (t : ℤ) (s : Tile) (i : TileIn) (o k : ℕ) → switched p d n t s i o ≡ Some k → k < ports p
 unfolding switched
 switched-below p d n t s i o k e = (pick-member (ports p) (λ m. asks_for (asked p d n t s i m) o) (s.switch o) k e).0
 
@@ -271,7 +271,7 @@ next-turn : (p : Plan) (d n : ℕ) (t : ℤ) (s : Tile) (i : TileIn) (port : ℕ
 unfolding tile_step
 next-turn p d n t s i port = refl
 
-next-switch : (p : Plan) (d n : ℕ) (t : ℤ) (s : Tile) (i : TileIn) (o : ℕ) → after (switched p d n t s i o) (s.switch o) ≡ (tile_step p d n t s i).switch o
+pub next-switch : (p : Plan) (d n : ℕ) (t : ℤ) (s : Tile) (i : TileIn) (o : ℕ) → after (switched p d n t s i o) (s.switch o) ≡ (tile_step p d n t s i).switch o
 unfolding tile_step
 next-switch p d n t s i o = refl
 

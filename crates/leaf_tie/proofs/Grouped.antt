@@ -18,17 +18,17 @@ use Rattle.vl_model.specs.Rules.{IsSound as IsSoundDesign}
 use Rattle.vl_model.specs.Lines.{leaf_named}
 use Rattle.vl_model.proofs.Held.{parts-hold}
 use Rattle.leaf_tie.specs.Alloc.{alloc_group}
-use Rattle.leaf_tie.specs.Switch.{switch_group}
 use Rattle.leaf_tie.specs.Buffers.{BufferSize, buffer_group}
 use Rattle.leaf_tie.specs.Counts.{idle_group, credit_group}
 use Rattle.leaf_tie.specs.Slots.{leaving_slot, arriving_slot, slot_group}
 use Rattle.leaf_tie.specs.Links.{link_group}
 use Rattle.leaf_tie.specs.Attach.{attach_group, enter_at}
 use Rattle.leaf_tie.specs.Tie.{LeafNames, PortNames, HasLink, HasPort, HasPlace, alloc_size, LeafIn, LeafTie}
-use Rattle.leaf_tie.specs.Glue.{NetNames, switch_names, switch_size, link_names, attach_names, attach_size, high, has_port, filled_group, tails_group, led_group, ends_group, ready_group, unready_group, on_group, freed_group, flit_group, word_group, eject_group, arrival_group, pulse_group, link_push, pop_of, Moves, DomainRuns, LeafRuns, DomainStarts, LeafStarts, GlueFits, state_at, rows_at, next_shared}
+use Rattle.leaf_tie.specs.Glue.{NetNames, switch_part, link_names, attach_names, attach_size, high, has_port, filled_group, tails_group, led_group, ends_group, ready_group, unready_group, on_group, freed_group, flit_group, word_group, eject_group, arrival_group, pulse_group, link_push, pop_of, Moves, DomainRuns, LeafRuns, DomainStarts, LeafStarts, GlueFits, state_at, rows_at, next_shared}
 use Rattle.leaf_tie.specs.Whole.{each_group, to_neighbour, link_uses, uses_slot, slot_groups, shared_groups, before_switch, behind_switch, channel_groups, sent_groups, link_buffers, local_groups, domain_groups, leaf_groups, Joined}
 use Rattle.leaf_tie.proofs.Members.{Member, in-front, in-back, in-each, in-then, in-else, in-neighbour, any-member, its-heads, its-moves, holds-in, moves-in}
-use Rattle.leaf_tie.proofs.Glued.{link-there, port-has}
+use Rattle.leaf_tie.proofs.Glued.{link-there}
+use Rattle.leaf_tie.proofs.Sized.{port-has}
 use Rattle.leaf_tie.proofs.Started.{slot-below, leaf-starts}
 use Rattle.leaf_tie.proofs.Whole.{leaf-kept, leaf-run-reset}
 
@@ -109,7 +109,7 @@ module _ (p : Plan) (n : ℕ) (names : LeafNames) (nets : NetNames) (q : PortNam
         (in-each (unready_group p nets d o) (ports p) (λ o. if has_port p n d o then led_group p n names nets dest_bits d o ∷ alloc_group p d n o (names.alloc d o) (alloc_size p d o) ∷ ready_group p n names nets q size d o ∷ [] else unready_group p nets d o ∷ []) o below
         (in-else (unready_group p nets d o) (has_port p n d o) (led_group p n names nets dest_bits d o ∷ alloc_group p d n o (names.alloc d o) (alloc_size p d o) ∷ ready_group p n names nets q size d o ∷ []) (unready_group p nets d o ∷ []) (port-not p n d o below absent) (inl refl))))))
 
-    pub middle : (g : Group) → Member g (switch_group (switch_names names nets d) (switch_size p d) ∷ ends_group p nets d ∷ idle_group (names.idle d) (nets.filled d) (nets.ends d) (high p d)
+    pub middle : (g : Group) → Member g (switch_part p n names nets d ∷ ends_group p nets d ∷ idle_group (names.idle d) (nets.filled d) (nets.ends d) (high p d)
         ∷ (behind_switch p n d names nets dest_bits ++ (sent_groups p n d names nets q base size dest_bits link_flit link_channel ++ (link_buffers p n d names nets q size link_flit link_channel ++ (if hosts p n d then local_groups p n d names nets q size dest_bits else []))))) → Member g gs
     middle g m = in-domain g (inr (inr (in-back g (before_switch p n d names nets q size dest_bits) _ m)))
 
@@ -163,7 +163,7 @@ module _ (p : Plan) (n : ℕ) (names : LeafNames) (nets : NetNames) (q : PortNam
     domain-runs d there = record {
       alloc = λ o port. moves (alloc_group p d n o (names.alloc d o) (alloc_size p d o)) (before d there (alloc_group p d n o (names.alloc d o) (alloc_size p d o)) o port (inr (inl refl)));
       one_ends = λ o. joined.ends d o;
-      switch = moves (switch_group (switch_names names nets d) (switch_size p d)) (middle d there (switch_group (switch_names names nets d) (switch_size p d)) (inl refl));
+      switch = moves (switch_part p n names nets d) (middle d there (switch_part p n names nets d) (inl refl));
       idle = moves (idle_group (names.idle d) (nets.filled d) (nets.ends d) (high p d)) (middle d there (idle_group (names.idle d) (nets.filled d) (nets.ends d) (high p d)) (inr (inr (inl refl))));
       filled = holds (filled_group p n names nets d) (in-domain d there (filled_group p n names nets d) (inl refl));
       tails = holds (tails_group p n names nets dest_bits d) (in-domain d there (tails_group p n names nets dest_bits d) (inr (inl refl)));
@@ -210,7 +210,7 @@ module _ (p : Plan) (n : ℕ) (names : LeafNames) (nets : NetNames) (q : PortNam
     domain-resets : (d : ℕ) → d < length p.domains → DomainStarts p n d names nets q base size dest_bits v
     domain-resets d there = record {
       alloc = λ o port. resets (alloc_group p d n o (names.alloc d o) (alloc_size p d o)) (before d there (alloc_group p d n o (names.alloc d o) (alloc_size p d o)) o port (inr (inl refl)));
-      switch = resets (switch_group (switch_names names nets d) (switch_size p d)) (middle d there (switch_group (switch_names names nets d) (switch_size p d)) (inl refl));
+      switch = resets (switch_part p n names nets d) (middle d there (switch_part p n names nets d) (inl refl));
       idle = resets (idle_group (names.idle d) (nets.filled d) (nets.ends d) (high p d)) (middle d there (idle_group (names.idle d) (nets.filled d) (nets.ends d) (high p d)) (inr (inr (inl refl))));
       credits = λ o x link below. resets (credit_group (names.credits d o x) (bit (q.credit_in o (base d + x)) (q.credit_bit (base d + x))) (net (nets.on d o x)) size.lh p.buffer)
           (channel d there (credit_group (names.credits d o x) (bit (q.credit_in o (base d + x)) (q.credit_bit (base d + x))) (net (nets.on d o x)) size.lh p.buffer) o x link below (inr (inl refl)));

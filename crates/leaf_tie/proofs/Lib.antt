@@ -5,6 +5,7 @@ pub mod Buffered
 pub mod Tagged
 pub mod Switched
 pub mod Granted
+pub mod Lone
 pub mod Sent
 pub mod Linked
 pub mod Fitting

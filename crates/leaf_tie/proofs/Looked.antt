@@ -1,16 +1,19 @@
 -- An address is looked up by one net for each range of a tile that hosts the domain.
 use Rattle.std.proofs.Common.{◌≡◌, ℕ, suc, ◌+◌, ◌-◌, ◌<◌, ◌≤◌, ◌^◌, ◌⊎◌, inl, inr, Bool, true, false, List, [], ◌∷◌, length, Option, refl, sym, ◌∙◌, ap, arith, ◌&&◌}
-use Rattle.std.specs.Prelude.{Some, None, nat_le, nat_lt, if◌then◌else◌, option_map, filter, find}
+use Rattle.std.specs.Prelude.{Some, None, nat_le, nat_lt, if◌then◌else◌, option_map, filter, find, bit_and, ◌==◌, ◌||◌}
 use Rattle.std.specs.List.{AllPairs, slice_index_or}
 use Rattle.std.proofs.lemmas.Bool.Decides.{nat_tests}
-use Rattle.vl_tree.specs.Values.{Name}
+use Rattle.vl_tree.specs.declared.tree.Op.TheVariants.{And, Or, Less, Equal}
+use Rattle.vl_tree.specs.Values.{Name, net, not, two}
 use Rattle.vl_model.specs.Meaning.{Widths, Values, value_of, one_if, chosen}
 use Rattle.vl_model.specs.Parts.{Holds, AllHold}
 use Rattle.gen_kit.proofs.Parts.{held-front, held-back}
 use Rattle.noc_model.specs.declared.Range.{Range}
 use Rattle.noc_model.specs.Plan.{Plan, hosts, holds_address, hosted_tile, lookup}
 use Rattle.noc_model.specs.Sound.{AreApart}
-use Rattle.leaf_tie.specs.Attach.{found_code, reach, in_range, looked, look_nets}
+use Rattle.leaf_tie.specs.Attach.{found_code, reach, not_below, not_above, in_range, looked, look_nets}
+use Rattle.gen_kit.specs.Families.{in_bits}
+use Rattle.gen_kit.proofs.Families.{bit-or}
 use Rattle.leaf_tie.proofs.Buffered.{bit-and}
 
 -- ---- the nets
@@ -22,9 +25,32 @@ at-least a first = go (nat_lt a first) refl
     go true e = let no : nat_le first a ≡ false = grind (arith, nat_tests, e) in rw no refl
     go false e = let yes : nat_le first a ≡ true = grind (arith, nat_tests, e) in rw yes refl
 
+at-most : (a last : ℕ) → (nat_lt a last || (a == last)) ≡ nat_le a last
+at-most a last = go (nat_lt a last) refl (a == last) refl
+  where
+    go : (x : Bool) → nat_lt a last ≡ x → (y : Bool) → (a == last) ≡ y → (x || y) ≡ nat_le a last
+    go true e y f = let yes : nat_le a last ≡ true = grind (arith, nat_tests, e) in sym yes
+    go false e true f = let yes : nat_le a last ≡ true = grind (arith, nat_tests, f) in sym yes
+    go false e false f = let no : nat_le a last ≡ false = grind (arith, nat_tests, e, f) in sym no
+
+not-above-is : (w : Widths) (v : Values) (address : Name) (r : Range) → value_of w v (not_above address r) ≡ one_if (nat_le (v.net address) r.last)
+not-above-is w v address r = go (r.last == 2 ^ 32 - 1)
+  where
+    go : (b : Bool) → value_of w v (if b then two Or (two Less (net address) (in_bits 32 r.last)) (two Equal (net address) (in_bits 32 r.last)) else not (two Less (in_bits 32 r.last) (net address))) ≡ one_if (nat_le (v.net address) r.last)
+    go true = bit-or (nat_lt (v.net address) r.last) (v.net address == r.last) ∙ ap one_if (at-most (v.net address) r.last)
+    go false = at-least r.last (v.net address)
+
 in-range-is : (w : Widths) (v : Values) (address : Name) (r : Range) → value_of w v (in_range address r) ≡ one_if (holds_address (v.net address) r)
-in-range-is w v address r =
-    rw (at-least (v.net address) r.first, at-least r.last (v.net address)) (bit-and (nat_le r.first (v.net address)) (nat_le (v.net address) r.last))
+in-range-is w v address r = go (r.first == 0) refl
+  where
+    go : (b : Bool) → (r.first == 0) ≡ b → value_of w v (if b then not_above address r else two And (not_below address r) (not_above address r)) ≡ one_if (nat_le r.first (v.net address) && nat_le (v.net address) r.last)
+    go true e =
+        let all : nat_le r.first (v.net address) ≡ true = grind (arith, nat_tests, e) in
+        not-above-is w v address r ∙ ap (λ b. one_if (b && nat_le (v.net address) r.last)) (sym all)
+    go false e =
+        ap (λ k. bit_and (2 ^ 1 - 1 - one_if (nat_lt (v.net address) r.first)) k) (not-above-is w v address r)
+        ∙ ap (λ k. bit_and k (one_if (nat_le (v.net address) r.last))) (at-least (v.net address) r.first)
+        ∙ bit-and (nat_le r.first (v.net address)) (nat_le (v.net address) r.last)
 
 pub look-shown : (w : Widths) (v : Values) (address : Name) (look : ℕ → Name) (b : ℕ) (rs : List Range) → AllHold w v (look_nets address look b rs)
     → value_of w v (looked look b (length rs)) ≡ found_code b (option_map (λ (r : Range). r.tile) (find (holds_address (v.net address)) rs))

@@ -10,8 +10,8 @@ use Rattle.noc_model.specs.declared.ways.Way.TheVariants.{Local, Plus, Minus}
 use Rattle.noc_model.proofs.Outputs.{class-few, channel-class}
 use Rattle.leaf_tie.specs.Alloc.{FitsOutput, out_count}
 use Rattle.leaf_tie.specs.Switch.{place_count}
-use Rattle.leaf_tie.specs.Tie.{alloc_size}
-use Rattle.leaf_tie.specs.Glue.{high, switch_size}
+use Rattle.leaf_tie.specs.Tie.{HasPort, alloc_size}
+use Rattle.leaf_tie.specs.Glue.{has_port, high, switch_size}
 
 some-classes : (p : Plan) → 1 ≤ classes p
 some-classes p = go p.torus
@@ -81,3 +81,7 @@ fits-output p d n (suc o) some = record {
       let few = class-few p n (place / link_channels p d) (place % link_channels p d / channels p d) (suc o) (channel-class p d (place / link_channels p d) (place % link_channels p d) below) in
       omega (arith, few));
 }
+
+pub port-has : (p : Plan) (n d port : ℕ) → HasPort p n d port → has_port p n d port ≡ true
+port-has p n d zero h = h
+port-has p n d (suc port) h = h.1

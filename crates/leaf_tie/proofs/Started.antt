@@ -1,5 +1,5 @@
 -- At reset the tie of a leaf stands.
-use Rattle.std.proofs.Common.{◌≡◌, ℕ, zero, suc, ◌+◌, ◌-◌, ◌/◌, ◌%◌, ◌<◌, ◌≤◌, ◌^◌, Bool, true, false, length, Option, refl, sym, ◌∙◌, ap, arith, subst, ℤ}
+use Rattle.std.proofs.Common.{◌≡◌, ℕ, zero, suc, ◌+◌, ◌-◌, ◌/◌, ◌%◌, ◌<◌, ◌≤◌, ◌^◌, Bool, true, false, [], length, Option, refl, sym, ◌∙◌, ap, arith, subst, ℤ}
 use Rattle.std.specs.Prelude.{None, pos, ◌-ℤ◌, nat_le, if◌then◌else◌, ◌==◌}
 use Rattle.std.proofs.Math.Nat.{zero-mod}
 use Rattle.std.proofs.lemmas.Bool.Decides.{nat_tests}
@@ -19,16 +19,18 @@ use Rattle.noc_model.specs.SoundState.{GoesHome, IsSoundTile}
 use Rattle.noc_model.specs.Tile.{TileIn, start_tile}
 use Rattle.noc_model.proofs.StateKept.{some-channels}
 use Rattle.gen_kit.specs.Masks.{mask}
-use Rattle.gen_kit.specs.Rotate.{rotate_group, pointer_moves}
+use Rattle.gen_kit.specs.Rotate.{rotate_group, pointer_moves, PointsTo}
 use Rattle.gen_kit.specs.Families.{for_each}
 use Rattle.leaf_tie.specs.Alloc.{AllocTie, AllocNames, AllocSize, alloc_group, active_moves, active_move, out_count}
 use Rattle.leaf_tie.specs.Buffers.{BufferSize}
 use Rattle.leaf_tie.specs.Slots.{leaving_slot, arriving_slot}
-use Rattle.leaf_tie.specs.Tie.{LeafNames, PortNames, HasLink, alloc_size, DomainTie, LeafTie, IsWord}
-use Rattle.leaf_tie.specs.Glue.{NetNames, switch_names, high, DomainStarts, LeafStarts, rows_at, state_at}
+use Rattle.leaf_tie.specs.Switch.{switch_group, lone_switch_group, lone_choice, lone_moves}
+use Rattle.leaf_tie.specs.Tie.{LeafNames, PortNames, HasLink, HasPort, alloc_size, DomainTie, LeafTie, IsWord, is_lone}
+use Rattle.leaf_tie.specs.Glue.{NetNames, switch_names, switch_size, has_port, high, DomainStarts, LeafStarts, rows_at, state_at}
 use Rattle.gen_kit.proofs.Sets.{mask-same, mask-none, mask-from}
 use Rattle.gen_kit.proofs.Families.{each-held}
 use Rattle.leaf_tie.proofs.Allocated.{split}
+use Rattle.leaf_tie.proofs.Sized.{port-has}
 use Rattle.gen_kit.proofs.Rotated.{rotate-starts}
 use Rattle.leaf_tie.proofs.Slotted.{slot-starts, modulo-below}
 use Rattle.leaf_tie.proofs.Sized.{high-is}
@@ -82,12 +84,9 @@ domain-starts : (p : Plan) (n d : ℕ) (names : LeafNames) (nets : NetNames) (q 
 domain-starts p n d names nets q base size dest_bits v sound there e = record {
   idle = e.idle.0 ∙ whole (high p d + 1) ∙ ap (λ m. mask m (λ k. true)) (high-is p d some);
   outputs = λ o port. alloc-starts p d n o (names.alloc d o) (alloc_size p d o) v (e.alloc o port);
-  switches = λ o below. rotate-starts (names.switch d o) (ports p - 1) v
-      (each-held (Reset v) (ports p - 1 + 1) (λ m. pointer_moves ((switch_names names nets d).choice m).pointer ((switch_names names nets d).choice m).winner (ports p - 1)) (held-front (Reset v) _ _ e.switch) o (omega (arith, below)));
+  switches = λ o below port. choice-starts (is_lone p d) refl e.switch o below port;
   credits = λ o x link few. (e.credits o x link few).0;
-  turns = λ port below. (each-held (Reset v) (ports p - 1 + 1) (λ m. pointer_moves ((switch_names names nets d).turn m).pointer ((switch_names names nets d).granted m) (link_channels p d - 1))
-      (held-back (Reset v) (for_each (ports p - 1 + 1) (λ m. pointer_moves ((switch_names names nets d).choice m).pointer ((switch_names names nets d).choice m).winner (ports p - 1))) _ e.switch) port (omega (arith, below))).0
-      ∙ sym (mask-from (link_channels p d - 1 + 1) 0 (omega arith));
+  turns = λ more port below. turn-starts (subst (λ b. AllReset v (if b then lone_switch_group (switch_names names nets d) (ports p - 1) (has_port p n d) else switch_group (switch_names names nets d) (switch_size p d)).moves) more e.switch) port below;
   pulses = λ port link. (e.pulses port link).0 ∙ empty (link_channels p d);
   buffers = λ port c place. (let r = e.buffers port c place in
       (0, record { read = r.1.1.1.1.1.1.1.1.0 ∙ sym (zero-mod (2 ^ (size.bh + 1))); write = r.1.1.1.1.1.1.1.1.1.0 ∙ sym (zero-mod (2 ^ (size.bh + 1))); count = r.1.1.1.1.1.1.1.1.1.1.0; words = tt }));
@@ -106,6 +105,22 @@ domain-starts p n d names nets q base size dest_bits v sound there e = record {
   where
     some : 0 < channels p d
     some = some-channels p d sound there
+
+    choice-starts : (b : Bool) → is_lone p d ≡ b → AllReset v (if b then lone_switch_group (switch_names names nets d) (ports p - 1) (has_port p n d) else switch_group (switch_names names nets d) (switch_size p d)).moves
+        → (o : ℕ) → o < ports p → (is_lone p d ≡ true → HasPort p n d o) → PointsTo (names.switch d o) (ports p - 1) v 0
+    choice-starts true is r o below port =
+        rotate-starts (names.switch d o) (ports p - 1) v
+        (subst (λ b. AllReset v (if b then (rotate_group (lone_choice (switch_names names nets d) o) (ports p - 1)).moves else [])) (port-has p n d o (port is))
+        (each-held (Reset v) (ports p - 1 + 1) (lone_moves (switch_names names nets d) (ports p - 1) (has_port p n d)) r o (omega (arith, below))))
+    choice-starts false is r o below port =
+        rotate-starts (names.switch d o) (ports p - 1) v
+        (each-held (Reset v) (ports p - 1 + 1) (λ m. pointer_moves ((switch_names names nets d).choice m).pointer ((switch_names names nets d).choice m).winner (ports p - 1)) (held-front (Reset v) _ _ r) o (omega (arith, below)))
+
+    turn-starts : AllReset v (switch_group (switch_names names nets d) (switch_size p d)).moves → (port : ℕ) → port < ports p → PointsTo (names.turn d port) (link_channels p d - 1) v 0
+    turn-starts r port below =
+        (each-held (Reset v) (ports p - 1 + 1) (λ m. pointer_moves ((switch_names names nets d).turn m).pointer ((switch_names names nets d).granted m) (link_channels p d - 1))
+        (held-back (Reset v) (for_each (ports p - 1 + 1) (λ m. pointer_moves ((switch_names names nets d).choice m).pointer ((switch_names names nets d).choice m).winner (ports p - 1))) _ r) port (omega (arith, below))).0
+        ∙ sym (mask-from (link_channels p d - 1 + 1) 0 (omega arith))
 
 pub leaf-starts : (p : Plan) (n : ℕ) (names : LeafNames) (nets : NetNames) (q : PortNames) (base : ℕ → ℕ) (size : BufferSize) (slot_high dest_bits link_flit link_channel : ℕ) (v : Values) (i : ℕ → ℕ → TileIn) → IsSound p
     → LeafStarts p n names nets q base size slot_high dest_bits link_flit link_channel v → LeafTie p n names size dest_bits link_flit link_channel v 0 (state_at p n i 0) (rows_at p n i 0)

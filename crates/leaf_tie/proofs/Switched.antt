@@ -1,6 +1,7 @@
 -- The nets of the switch show the grants.
-use Rattle.std.proofs.Common.{◌≡◌, ◌≢◌, ℕ, ◌+◌, ◌≤◌, Bool, true, false, List, [], ◌∷◌, Option, refl, sym, ◌∙◌, ap, arith, ◌==◌, ◌&&◌, ℤ}
-use Rattle.std.specs.Prelude.{Some, None, if◌then◌else◌, option_and_then}
+use Rattle.std.proofs.Common.{◌≡◌, ◌≢◌, ℕ, ◌+◌, ◌≤◌, Bool, true, false, List, [], ◌∷◌, Option, refl, sym, ◌∙◌, ap, arith, subst, ◌==◌, ◌&&◌, ℤ}
+use Rattle.std.specs.Prelude.{Some, None, nat_le, if◌then◌else◌, option_and_then}
+use Rattle.std.specs.Option.{option_or}
 use Rattle.std.proofs.lemmas.Bool.Decides.{nat_tests}
 use Rattle.vl_tree.specs.Values.{Name, Expr, net, choose}
 use Rattle.gen_kit.specs.Families.{in_bits}
@@ -10,7 +11,7 @@ use Rattle.noc_model.specs.declared.Grant.{Grant}
 use Rattle.noc_model.specs.declared.Stage.{Stage}
 use Rattle.noc_model.specs.declared.Stage.TheVariants.{Idle, Routed, Active}
 use Rattle.noc_model.specs.Plan.{Plan, in_channels, ports}
-use Rattle.noc_model.specs.Pick.{pick}
+use Rattle.noc_model.specs.Pick.{pick, least, number_if}
 use Rattle.noc_model.specs.Tile.{Tile, TileIn}
 use Rattle.noc_model.specs.Step.{takes, is_ready_at, is_ready, grant_at, asked, asks_for, chosen as switched, granted_to, grant, is_channel, leaves, is_place}
 use Rattle.noc_model.proofs.Least.{pick-member}
@@ -83,7 +84,7 @@ ready-goes p d n t s i c q (Routed o) e = absurd (cc e)
 ready-goes p d n t s i c q (Active o w) e = (o, w, refl)
 
 -- an output picks a port only where the port asks for it
-picks-asking : (p : Plan) (d n : ℕ) (t : ℤ) (s : Tile) (i : TileIn) (o port : ℕ) → is_place (switched p d n t s i o) port ≡ true → asks_for (asked p d n t s i port) o ≡ true
+pub picks-asking : (p : Plan) (d n : ℕ) (t : ℤ) (s : Tile) (i : TileIn) (o port : ℕ) → is_place (switched p d n t s i o) port ≡ true → asks_for (asked p d n t s i port) o ≡ true
 unfolding switched
 picks-asking p d n t s i o port e = go (pick (ports p) (λ m. asks_for (asked p d n t s i m) o) (s.switch o)) refl e
   where
@@ -104,6 +105,19 @@ grant-asked p d n t s i port = refl
 pub picked-ready : (p : Plan) (d n : ℕ) (t : ℤ) (s : Tile) (i : TileIn) (port k : ℕ) → picked p d n t s i port ≡ Some k → is_ready p d n t s i port k ≡ true
 unfolding picked
 picked-ready p d n t s i port k e = (pick-member (in_channels p d port) (is_ready p d n t s i port) (s.turn port) k e).1
+
+-- a port with one channel that picks nothing has nothing ready
+pub picks-none : (p : Plan) (d n : ℕ) (t : ℤ) (s : Tile) (i : TileIn) (port : ℕ) → in_channels p d port ≡ 1 → picked p d n t s i port ≡ None → is_ready p d n t s i port 0 ≡ false
+unfolding picked pick
+picks-none p d n t s i port one e = go (is_ready p d n t s i port 0) refl (subst (λ k. pick k (is_ready p d n t s i port) (s.turn port) ≡ None) one e)
+  where
+    some : (x : Option ℕ) → option_or x (Some 0) ≡ None → ⊥
+    some None h = cc h
+    some (Some k) h = cc h
+
+    go : (b : Bool) → is_ready p d n t s i port 0 ≡ b → pick 1 (is_ready p d n t s i port) (s.turn port) ≡ None → b ≡ false
+    go false f h = refl
+    go true f h = absurd (some (least 1 (λ k. nat_le (s.turn port) k && is_ready p d n t s i port k)) (sym (ap (λ b. option_or (least 1 (λ k. nat_le (s.turn port) k && is_ready p d n t s i port k)) (option_or None (number_if b 0))) f) ∙ h))
 
 false-by : (b : Bool) → (b ≡ true → ⊥) → b ≡ false
 false-by true never = absurd (never refl)

@@ -1,5 +1,5 @@
 -- The attachment of a domain at a tile: whether a word is taken, where its packet goes, and what enters.
-use Rattle.std.specs.Prelude.{◌≡◌, ℕ, zero, suc, ◌+◌, ◌-◌, ◌<◌, ◌≤◌, ◌^◌, List, [], ◌∷◌, ◌++◌, length, Option, Some, None, filter}
+use Rattle.std.specs.Prelude.{◌≡◌, ℕ, zero, suc, ◌+◌, ◌-◌, ◌<◌, ◌≤◌, ◌^◌, List, [], ◌∷◌, ◌++◌, length, Option, Some, None, filter, if◌then◌else◌, ◌==◌}
 use Rattle.vl_tree.specs.declared.tree.Op.TheVariants.{And, Or, Add, Equal, Less}
 use Rattle.vl_tree.specs.Values.{Name, Expr, net, bit, part, not, two, choose, cat, no_parts, parts, Item, wire, reg, assign, clocked}
 use Rattle.vl_model.specs.Meaning.{Widths, Values}
@@ -51,10 +51,21 @@ found_code b (Some tile) = 2 ^ b + tile
 abbrev pub reach : Plan → ℕ → List Range
 reach p d = filter (λ (r : Range). hosts p r.tile d) p.ranges
 
--- whether the address is in the range
+-- whether the address is not below the first of the range
+abbrev pub not_below : Name → Range → Expr
+not_below address r = not (two Less (net address) (in_bits 32 r.first))
+
+-- whether it is not above the last: nothing is compared for being above the last of all addresses
+abbrev pub not_above : Name → Range → Expr
+not_above address r =
+    if r.last == 2 ^ 32 - 1
+    then two Or (two Less (net address) (in_bits 32 r.last)) (two Equal (net address) (in_bits 32 r.last))
+    else not (two Less (in_bits 32 r.last) (net address))
+
+-- whether the address is in the range: no address is below 0
 abbrev pub in_range : Name → Range → Expr
-in_range address r = two And (not (two Less (net address) (in_bits 32 r.first))) (not (two Less
-    (in_bits 32 r.last) (net address)))
+in_range address r =
+    if r.first == 0 then not_above address r else two And (not_below address r) (not_above address r)
 
 -- what is found among the last k ranges
 abbrev pub looked : (ℕ → Name) → ℕ → ℕ → Expr

@@ -3,7 +3,7 @@ use Rattle.std.specs.Prelude.{◌≡◌, ℕ, zero, suc, ◌+◌, ◌-◌, ◌*�
 use Rattle.vl_tree.specs.declared.tree.Op.TheVariants.{And, Or}
 use Rattle.vl_tree.specs.Values.{Name, Expr, net, bit, part, not, two, cat, no_parts, parts, choose, wire, reg, assign, clocked}
 use Rattle.vl_model.specs.Meaning.{Widths, Values, one_if}
-use Rattle.gen_kit.specs.Families.{in_bits, or_upto}
+use Rattle.gen_kit.specs.Families.{in_bits, or_upto, defined}
 use Rattle.gen_kit.specs.Mux.{gated_words, table}
 use Rattle.vl_model.specs.Parts.{AllReset}
 use Rattle.gen_buffer.specs.Fifo.{fifo_items}
@@ -15,14 +15,14 @@ use Rattle.noc_model.specs.Step.{sent, shifted, tile_step}
 use Rattle.gen_kit.specs.Groups.{Group, HoldsIn, StepsIn}
 use Rattle.gen_kit.specs.Rotate.{is_empty}
 use Rattle.leaf_tie.specs.Alloc.{alloc_group, out_count}
-use Rattle.leaf_tie.specs.Switch.{SwitchNames, SwitchSize, switch_group, ready_expr}
+use Rattle.leaf_tie.specs.Switch.{SwitchNames, SwitchSize, switch_group, lone_switch_group, port_part, ready_expr}
 use Rattle.gen_kit.specs.Families.{row_parts}
 use Rattle.leaf_tie.specs.Buffers.{BufferSize, buffer_group, arrival_push}
 use Rattle.leaf_tie.specs.Counts.{idle_group, credit_group}
 use Rattle.leaf_tie.specs.Attach.{AttachNames, AttachSize, attach_group, enter_at}
 use Rattle.leaf_tie.specs.Slots.{leaving_slot, arriving_slot, slot_group}
 use Rattle.leaf_tie.specs.Links.{LinkNames, link_group}
-use Rattle.leaf_tie.specs.Tie.{LeafNames, PortNames, HasLink, HasPort, HasPlace, alloc_size}
+use Rattle.leaf_tie.specs.Tie.{LeafNames, PortNames, HasLink, HasPort, HasPlace, alloc_size, is_lone}
 
 -- the nets of a domain that are no registers
 pub record NetNames : Type 0 where
@@ -182,9 +182,23 @@ ready_group p n names nets q size d o =
     net_group (high p d) (nets.ready d o) (ready_expr (nets.filled d) (names.alloc d o).active
     (able p n names q size d o) (high p d) (out_high p d o))
 
--- an output that is not there has no ready place
+-- an output that is not there has no ready place, and no net where nothing reads it
 abbrev pub unready_group : Plan → NetNames → ℕ → ℕ → Group
-unready_group p nets d o = net_group (high p d) (nets.ready d o) (in_bits (high p d + 1) 0)
+unready_group p nets d o = record {
+  heads = [];
+  nets = if is_lone p d then [] else defined (high p d) (nets.ready d o) (in_bits (high p d + 1) 0);
+  moves = [];
+}
+
+-- the domain's switch
+abbrev pub switch_part : Plan → ℕ → LeafNames → NetNames → ℕ → Group
+switch_part p n names nets d =
+    if is_lone p d then lone_switch_group (switch_names names nets d) (ports p - 1) (has_port p n d)
+    else switch_group (switch_names names nets d) (switch_size p d)
+
+-- what leaves an input port, of the places that a flit leaves: whether one leaves channel c
+abbrev pub leaves_place : Plan → NetNames → ℕ → ℕ → ℕ → Expr
+leaves_place p nets d port c = bit (nets.leaves d) (port * link_channels p d + c)
 
 -- whether a place that is active on channel k is among these
 abbrev pub some_active : Plan → LeafNames → ℕ → ℕ → Name → ℕ → Expr
@@ -203,7 +217,7 @@ freed_group p names nets d o = net_group (out_high p d o) (names.alloc d o).free
 abbrev pub flit_group : Plan → LeafNames → NetNames → ℕ → ℕ → ℕ → Group
 flit_group p names nets dest_bits d port =
     net_group (33 + dest_bits) (nets.flit d port) (or_upto (in_channels p d port - 1) (gated_words (34 + dest_bits)
-    (λ c. bit (nets.granted d port) c) (λ c. part (names.buffer d port c).front (33 + dest_bits) 0)))
+    (leaves_place p nets d port) (λ c. part (names.buffer d port c).front (33 + dest_bits) 0)))
 
 -- the flit of an input port: a port that is not there has none
 abbrev pub port_flit : Plan → ℕ → NetNames → ℕ → ℕ → ℕ → Expr
@@ -261,8 +275,8 @@ abbrev pub pulse_group : Plan → LeafNames → NetNames → ℕ → ℕ → Gro
 pulse_group p names nets d port = record {
   heads = reg (link_channels p d - 1) (names.pulse d port) ∷ [];
   nets = [];
-  moves = clocked (names.pulse d port) (record { width = link_channels p d - 1 + 1; value = 0 }) (net
-      (nets.granted d port)) ∷ [];
+  moves = clocked (names.pulse d port) (record { width = link_channels p d - 1 + 1; value = 0 })
+      (port_part (switch_size p d) (nets.leaves d) port) ∷ [];
 }
 
 -- whether a word that arrives is pushed into the buffer
@@ -272,7 +286,7 @@ link_push p names q link_flit link_channel d port m c =
 
 -- whether a flit leaves the buffer
 abbrev pub pop_of : Plan → NetNames → ℕ → ℕ → ℕ → Expr
-pop_of p nets d port c = bit (nets.leaves d) (port * link_channels p d + c)
+pop_of p nets d port c = leaves_place p nets d port c
 
 -- ---- one edge
 
@@ -293,7 +307,7 @@ pub record DomainRuns (p : Plan) (n d : ℕ) (names : LeafNames) (nets : NetName
     → ℕ) (size : BufferSize) (dest_bits link_flit link_channel : ℕ) (w : Widths) (v u : Values) : Type 0 where
   pub alloc : (o : ℕ) → HasPort p n d o → Moves (alloc_group p d n o (names.alloc d o) (alloc_size p d o)) w v u
   pub one_ends : (o : ℕ) → (names.alloc d o).ends ≡ nets.ends d
-  pub switch : Moves (switch_group (switch_names names nets d) (switch_size p d)) w v u
+  pub switch : Moves (switch_part p n names nets d) w v u
   pub idle : Moves (idle_group (names.idle d) (nets.filled d) (nets.ends d) (high p d)) w v u
   pub filled : HoldsIn (filled_group p n names nets d) w v
   pub tails : HoldsIn (tails_group p n names nets dest_bits d) w v
@@ -384,7 +398,7 @@ rows_at p n i (suc t) o j = next_shared p n t (state_at p n i t) (i t) (rows_at 
 pub record DomainStarts (p : Plan) (n d : ℕ) (names : LeafNames) (nets : NetNames) (q : PortNames) (base : ℕ
     → ℕ) (size : BufferSize) (dest_bits : ℕ) (v : Values) : Type 0 where
   pub alloc : (o : ℕ) → HasPort p n d o → AllReset v (alloc_group p d n o (names.alloc d o) (alloc_size p d o)).moves
-  pub switch : AllReset v (switch_group (switch_names names nets d) (switch_size p d)).moves
+  pub switch : AllReset v (switch_part p n names nets d).moves
   pub idle : AllReset v (idle_group (names.idle d) (nets.filled d) (nets.ends d) (high p d)).moves
   pub credits : (o x : ℕ) → HasLink p n o → x < link_channels p d
       → AllReset v (credit_group (names.credits d o x) (bit (q.credit_in o (base d + x)) (q.credit_bit

@@ -1,5 +1,5 @@
 -- Which flit of a domain goes by which output: the ready places, one of each input port, one of these for each output.
-use Rattle.std.specs.Prelude.{◌≡◌, ℕ, ◌+◌, ◌-◌, ◌*◌, ◌/◌, ◌%◌, ◌≤◌, Bool, true, false, List, [], ◌∷◌, ◌++◌, ◌==◌, ◌&&◌, ℤ}
+use Rattle.std.specs.Prelude.{◌≡◌, ℕ, ◌+◌, ◌-◌, ◌*◌, ◌/◌, ◌%◌, ◌<◌, ◌≤◌, Bool, true, false, List, [], ◌∷◌, ◌++◌, ◌==◌, ◌&&◌, if◌then◌else◌, ℤ}
 use Rattle.vl_tree.specs.declared.tree.Op.TheVariants.{And}
 use Rattle.vl_tree.specs.Values.{Name, Expr, net, bit, part, not, two, choose, cat, Item, wire, reg, assign}
 use Rattle.vl_model.specs.Meaning.{Widths, Values, value_of, one_if}
@@ -13,7 +13,7 @@ use Rattle.gen_kit.specs.Masks.{mask}
 use Rattle.gen_kit.specs.Groups.{Group}
 use Rattle.gen_kit.specs.Rotate.{RotateNames, rotate_group, pointer_moves, is_empty, PointsTo}
 use Rattle.leaf_tie.specs.Places.{stage_at, queue_at, is_active}
-use Rattle.gen_kit.specs.Families.{for_each, or_upto}
+use Rattle.gen_kit.specs.Families.{for_each, or_upto, defined}
 use Rattle.leaf_tie.specs.Buffers.{is_filled}
 
 -- whether the channel is active on the output
@@ -108,6 +108,52 @@ switch_group a z = record {
       for_each (z.last + 1) (λ o. pointer_moves (a.choice o).pointer (a.choice o).winner z.last)
       ++ for_each (z.last + 1) (λ port. pointer_moves (a.turn port).pointer (a.granted port) z.channel);
 }
+
+-- ---- one channel at each port
+
+-- an output chooses among its ready places as they are
+abbrev pub lone_choice : SwitchNames → ℕ → RotateNames
+lone_choice a o = record {
+  request = a.ready o;
+  pointer = (a.choice o).pointer;
+  some = (a.choice o).some;
+  winner = (a.choice o).winner;
+}
+
+-- what an output has, where it is there
+abbrev pub lone_heads : SwitchNames → ℕ → (ℕ → Bool) → ℕ → List Item
+lone_heads a last there o = if there o then (rotate_group (lone_choice a o) last).heads else []
+
+abbrev pub lone_nets : SwitchNames → ℕ → (ℕ → Bool) → ℕ → List Item
+lone_nets a last there o = if there o then (rotate_group (lone_choice a o) last).nets else []
+
+abbrev pub lone_moves : SwitchNames → ℕ → (ℕ → Bool) → ℕ → List Item
+lone_moves a last there o = if there o then (rotate_group (lone_choice a o) last).moves else []
+
+-- the place that an output chose, where it is there
+abbrev pub chosen_place : SwitchNames → ℕ → (ℕ → Bool) → ℕ → Expr
+chosen_place a last there o = if there o then net (a.choice o).winner else in_bits (last + 1) 0
+
+-- the switch of a domain with one channel at each port: a port has nothing to pick. last: one less than the ports;
+-- there: whether the domain has the output
+abbrev pub lone_switch_group : SwitchNames → ℕ → (ℕ → Bool) → Group
+lone_switch_group a last there = record {
+  heads = for_each (last + 1) (lone_heads a last there);
+  nets = for_each (last + 1) (lone_nets a last there)
+      ++ defined last a.leaves (or_upto last (chosen_place a last there));
+  moves = for_each (last + 1) (lone_moves a last there);
+}
+
+-- the ready places of the outputs that are there are shown, and their pointers stand
+pub record LoneIn (p : Plan) (d n : ℕ) (a : SwitchNames) (there : ℕ → Bool) (v : Values) (t : ℤ) (s : Tile)
+    (i : TileIn) : Type 0 where
+  pub one_channel : link_channels p d ≡ 1
+  pub readies : (o : ℕ) → o < ports p → there o ≡ true → v.net (a.ready o) ≡ mask (ports p) (ready_for p d n t s i o)
+  pub choices : (o : ℕ) → o < ports p → there o ≡ true → PointsTo (lone_choice a o) (ports p - 1) v (s.switch o)
+  -- a stage names an output that is there
+  pub outputs : (port c o w : ℕ) → s.stage port c ≡ Active o w → (o < ports p) × (there o ≡ true)
+
+-- ---- more channels
 
 -- the sizes are the plan's, the ready places are shown, and the pointers stand
 pub record SwitchIn (p : Plan) (d n : ℕ) (a : SwitchNames) (z : SwitchSize) (v : Values) (t : ℤ) (s : Tile)

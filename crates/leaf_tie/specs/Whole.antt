@@ -7,14 +7,13 @@ use Rattle.gen_kit.specs.Groups.{Group}
 use Rattle.noc_model.specs.Plan.{Plan, channels, link_channels, ports, hosts}
 use Rattle.noc_model.specs.Place.{neighbour, opposite}
 use Rattle.leaf_tie.specs.Alloc.{alloc_group}
-use Rattle.leaf_tie.specs.Switch.{switch_group}
 use Rattle.leaf_tie.specs.Buffers.{BufferSize, buffer_group}
 use Rattle.leaf_tie.specs.Counts.{idle_group, credit_group}
 use Rattle.leaf_tie.specs.Slots.{leaving_slot, arriving_slot, slot_group}
 use Rattle.leaf_tie.specs.Links.{link_group}
 use Rattle.leaf_tie.specs.Attach.{attach_group, enter_at}
 use Rattle.leaf_tie.specs.Tie.{LeafNames, PortNames, HasLink, alloc_size}
-use Rattle.leaf_tie.specs.Glue.{NetNames, switch_names, switch_size, link_names, attach_names, attach_size, high, has_port, filled_group, tails_group, led_group, ends_group, ready_group, unready_group, on_group, freed_group, flit_group, word_group, eject_group, arrival_group, pulse_group, link_push, pop_of}
+use Rattle.leaf_tie.specs.Glue.{NetNames, switch_part, link_names, attach_names, attach_size, high, has_port, filled_group, tails_group, led_group, ends_group, ready_group, unready_group, on_group, freed_group, flit_group, word_group, eject_group, arrival_group, pulse_group, link_push, pop_of}
 
 -- the groups of 0, of 1 and so on, below n
 abbrev pub each_group : ℕ → (ℕ → List Group) → List Group
@@ -97,7 +96,7 @@ abbrev pub domain_groups : Plan → ℕ → LeafNames → NetNames → PortNames
 domain_groups p n names nets q base size dest_bits link_flit link_channel d =
     filled_group p n names nets d ∷ tails_group p n names nets dest_bits d
     ∷ (before_switch p n d names nets q size dest_bits
-    ++ (switch_group (switch_names names nets d) (switch_size p d) ∷ ends_group p nets d
+    ++ (switch_part p n names nets d ∷ ends_group p nets d
     ∷ idle_group (names.idle d) (nets.filled d) (nets.ends d) (high p d)
     ∷ (behind_switch p n d names nets dest_bits
     ++ (sent_groups p n d names nets q base size dest_bits link_flit link_channel

@@ -15,5 +15,6 @@ going_at p d v states (suc t) = going_next p d v t (going_at p d v states t)
 abbrev pub driven_nets : Plan → Design → Driver → (ℕ → List ℕ) → ℕ → Nets
 driven_nets p d v states t = nets_in p d v t (going_at p d v states t)
 
+-- the numbers that the driver puts on the input ports in cycle t
 abbrev pub inputs_at : Plan → Design → Driver → (ℕ → List ℕ) → ℕ → Name → ℕ
 inputs_at p d v states t = driven_inputs v t (going_at p d v states t).states 0 p.hosts

@@ -11,12 +11,14 @@ use noc_model::Plan;
 use std::alloc::AllocError;
 use tile_drive::Drive;
 
+/// 1 if it holds, else 0.
 fn one_if(is: bool) -> u64
     ensures { result ≡ one_if is }
 {
     if is { 1 } else { 0 }
 }
 
+/// Adds four numbers.
 fn push_four(inputs: &mut Vec<u64>, a: u64, b: u64, c: u64, d: u64) -> Result<(), AllocError>
     ensures { OnOk result (inputs.new.items ≡ inputs.old.items ++ (a ∷ b ∷ c ∷ d ∷ [])) }
 {
