@@ -29,7 +29,7 @@ use Rattle.label_audit.specs.Bits.{domains_in, label_in}
 use Rattle.label_audit.specs.Rows.{row_in, bit_in, first_bits, row_sources, rows_by}
 use Rattle.label_audit.specs.Audited.{port_domain}
 use Rattle.label_audit.specs.Whole.{IsShape, domain_at, phase_in, tops_in}
-use Rattle.label_audit.specs.Walks.{design_in, phase_count, phase_at, IsWalk, NoneWaits, IsDone, all_tops}
+use Rattle.label_audit.specs.Walks.{design_in, phase_count, phase_at, IsWalk, IsDone, all_tops}
 use Rattle.label_audit.specs.Leaks.{row_foreign, leak_in, port_rows, port_leak_in, or_leak, leaks_in}
 use Rattle.label_audit.proofs.Computed.{bit-first, sources-first}
 use Rattle.label_audit.proofs.Firsts.{foreign-is}
@@ -112,18 +112,18 @@ module _ (s : Shape) (shape : IsShape s) (phases : List (List (List (List Bit)))
   abbrev t : Name → ℕ
   t = place_in s.declared.now
 
-  abbrev walk : IsWalk s phases done.0
-  walk = done.1
+  abbrev walk : IsWalk s phases None
+  walk = done
 
   abbrev labels : ℕ → LabelNets
   labels f = phase_labels d owner (walk.kept f)
 
   pub count : length tops ≡ L
-  count = let e = ap length same in let a = length-map tops (λ rows. map row_in rows) in let b = length-firsts (λ f. tops_in s (phase_in (phase_at phases f))) (length phases) in let long = walk.phases_long in omega (arith, e, a, b, long)
+  count = let e = ap length same in let a = length-map tops (λ rows. map row_in rows) in let b = length-firsts (λ f. tops_in s (phase_in (phase_at phases f))) (length phases) in let long = walk.long in omega (arith, e, a, b, long)
 
   tops-at : (f : ℕ) → f < L → get_or (phase_in tops) f [] ≡ tops_in s (phase_in (phase_at phases f))
   tops-at f lt =
-      let long = walk.phases_long in ap (λ xs. get_or xs f []) same ∙ firsts-at (λ g. tops_in s (phase_in (phase_at phases g))) (length phases) f [] (omega (arith, lt, long))
+      let long = walk.long in ap (λ xs. get_or xs f []) same ∙ firsts-at (λ g. tops_in s (phase_in (phase_at phases g))) (length phases) f [] (omega (arith, lt, long))
 
   -- a net's row has its labels
   row-is : (f : ℕ) → f < L → (n : Name) → is_kind is_net all n ≡ true → port_rows t (phase_in tops) n f ≡ first_bits ((labels f).top n) ((widths all).net n)
@@ -194,7 +194,7 @@ module _ (s : Shape) (shape : IsShape s) (phases : List (List (List (List Bit)))
   pub verdict-is : (leak : Option Leak) → leak ≡ leaks_in t s.plan.now.hosts (phase_in tops) (length tops) d.top.ports 0 → IsVerdict d owner most_domains L leak
   verdict-is leak e = (
     labels,
-    done-least s shape phases done.0 walk done.2,
+    done-least s shape phases walk,
     are-below,
     e ∙ leaks-are d.top.ports 0 (λ k q at. (let place : k ≡ 0 + k = omega arith in subst (Good q) place (good-at k q at))),
   )

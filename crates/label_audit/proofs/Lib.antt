@@ -13,6 +13,7 @@ pub mod OneLeaf
 pub mod Whole
 pub mod TopPorts
 pub mod Phases
+pub mod Rises
 pub mod Walks
 pub mod Added
 pub mod Judged

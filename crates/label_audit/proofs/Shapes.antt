@@ -17,9 +17,11 @@ use Rattle.label_model.specs.Labels.{Label}
 use Rattle.label_audit.specs.declared.bit.Bit.{Bit}
 use Rattle.label_audit.specs.declared.part.Part.{Part}
 use Rattle.label_audit.specs.declared.phase.Shape.{Shape}
-use Rattle.label_audit.specs.Rows.{row_in, firsts}
+use Rattle.label_audit.specs.Bits.{label_in}
+use Rattle.label_audit.specs.Rows.{row_in, first_bits, firsts}
 use Rattle.label_audit.specs.Audited.{domain_of}
 use Rattle.label_audit.specs.Whole.{leaf_of, IsPart, AllAt, IsShape, domain_at, phase_in}
+use Rattle.label_audit.proofs.Rows.{grown}
 use Rattle.label_audit.proofs.Instances.{more-rows, more-phase}
 use Rattle.label_audit.proofs.TopPorts.{eleven, ports-are}
 
@@ -39,7 +41,11 @@ any-default (z ∷ xs) (suc i) x y lt = any-default xs i x y (omega (arith, lt))
 one-more : {A : Type 0} (f : ℕ → A) (i : ℕ) → firsts f (i + 1) ≡ firsts f i ++ f i ∷ []
 one-more f i = ap (firsts f) (let e : i + 1 ≡ suc i = omega arith in e)
 
--- one more row, and one more instance
+-- one more bit, one more row, and one more instance
+pub grow-row : (row all : List Bit) (x : Bit) (f : ℕ → Label) (i : ℕ) → all ≡ row ++ x ∷ [] → row_in row ≡ first_bits f i → label_in x ≡ f i → row_in all ≡ first_bits f (i + 1)
+grow-row row all x f i e h k =
+    ap row_in e ∙ grown row x ∙ ap (λ z. z ++ label_in x ∷ []) h ∙ ap (λ z. first_bits f i ++ z ∷ []) k ∙ ap (first_bits f) (let next : suc i ≡ i + 1 = omega arith in next)
+
 pub grow-rows : (rows all : List (List Bit)) (x : List Bit) (f : ℕ → List Label) (i : ℕ) → all ≡ rows ++ x ∷ [] → map row_in rows ≡ firsts f i → row_in x ≡ f i → map row_in all ≡ firsts f (i + 1)
 grow-rows rows all x f i e h k = ap (map row_in) e ∙ more-rows rows x ∙ ap (λ z. z ++ row_in x ∷ []) h ∙ ap (λ z. firsts f i ++ z ∷ []) k ∙ sym (one-more f i)
 

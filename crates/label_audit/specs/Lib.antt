@@ -3,6 +3,7 @@ pub mod Rows
 pub mod Instances
 pub mod Audited
 pub mod Whole
+pub mod Rises
 pub mod Walks
 pub mod Leaks
 pub mod Laws

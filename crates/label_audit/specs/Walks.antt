@@ -1,6 +1,6 @@
--- The walk from reset through the phases: its labels are above what each phase hands over that is done with, and below
--- every lawful labelling.
-use Rattle.std.specs.Prelude.{◌≡◌, ℕ, ◌+◌, ◌%◌, ◌<◌, Bool, false, List, [], length, get_or}
+-- The walk from reset through the phases: its labels are above what each phase hands over, but for one that has still
+-- to be handed over, and below every lawful labelling.
+use Rattle.std.specs.Prelude.{◌≡◌, ◌≢◌, ℕ, ◌+◌, ◌%◌, ◌<◌, List, [], length, get_or, Option, Some, None}
 use Rattle.vl_tree.specs.Values.{Name, Design}
 use Rattle.vl_tree.specs.Read.{read_design}
 use Rattle.label_model.specs.Labels.{Label, Labels}
@@ -29,25 +29,22 @@ pub record AreFirst (s : Shape) (count : ℕ) (phases : List (List (List (List B
   pub stand : (f : ℕ) → f < count
       → Stand s (first_round (design_in s) (port_domain s.plan.now) f) (phase_in (phase_at phases f))
 
--- labels by phase, and which phases have still to be handed over
-pub record IsWalk (s : Shape) (phases : List (List (List (List Bit)))) (waits : List Bool) : Type 0 where
+-- labels by phase, and the phase that has still to be handed over
+pub record IsWalk (s : Shape) (phases : List (List (List (List Bit)))) (waits : Option ℕ) : Type 0 where
   pub kept : ℕ → Name → Labels
-  pub phases_long : length phases ≡ phase_count s
-  pub waits_long : length waits ≡ phase_count s
+  pub long : length phases ≡ phase_count s
+  pub within : (f : ℕ) → waits ≡ Some f → f < phase_count s
   pub stand : (f : ℕ) → f < phase_count s → Stand s (kept f) (phase_in (phase_at phases f))
   pub starts : IsKeptBelow (design_in s) (first_labels (design_in s)) (kept 0)
-  pub edges : (f : ℕ) → f < phase_count s → get_or waits f false ≡ false
+  pub edges : (f : ℕ) → f < phase_count s → waits ≢ Some f
       → IsKeptBelow (design_in s) (next_labels (design_in s) (port_domain s.plan.now) (kept f)) (kept
       ((f + 1) % phase_count s))
   pub least : (labels : ℕ → LabelNets) → IsLawful (design_in s) (port_domain s.plan.now) (phase_count s) labels
       → (f : ℕ) → f < phase_count s → IsKeptBelow (design_in s) (kept f) (labels f).inside
 
-abbrev pub NoneWaits : List Bool → Type 0
-NoneWaits waits = (f : ℕ) → f < length waits → get_or waits f false ≡ false
-
--- a walk of which no phase waits
+-- a walk of which no phase has to be handed over
 abbrev pub IsDone : Shape → List (List (List (List Bit))) → Type 0
-IsDone s phases = (waits : List Bool) × IsWalk s phases waits × NoneWaits waits
+IsDone s phases = IsWalk s phases None
 
 -- the rows of the top's nets, by phase
 abbrev pub all_tops : Shape → List (List (List (List Bit))) → List (List (List Label))

@@ -1,8 +1,9 @@
 //! What is known of a bit, and the operators on one bit.
-ghost use Rattle.std.specs.Prelude.{◌≡◌, true};
+ghost use Rattle.std.specs.Prelude.{◌≡◌, ◌≢◌, ◌<◌, true, false};
 ghost use Rattle.label_model.specs.Labels.{Label, sources, mixed, join, not_label, and_label, or_label, xor_label, choice_label};
 ghost use Rattle.label_model.specs.Phase.{write_label};
-ghost use Rattle.label_audit.specs.Bits.{domains_in, label_in};
+ghost use Rattle.label_audit.specs.Bits.{domains_in, mask_in, label_in};
+ghost use Rattle.label_audit.specs.Rises.{bit_left};
 
 /// What is known of a bit: its value, or the domains whose inputs it may depend on, domain `d` by bit `d`.
 #[derive(Clone, Copy)]
@@ -14,7 +15,8 @@ pub(crate) enum Bit {
 /// The domains that the bit may depend on.
 #[tactic(auto, using(crate::proofs::Bits::bits))]
 pub(crate) fn domains(x: Bit) -> u16
-    ensures { domains_in result ≡ sources (label_in x) }
+    ensures set { domains_in result ≡ sources (label_in x) }
+    ensures mask { result ≡ mask_in x }
 {
     match x {
         Bit::Known(_) => 0,
@@ -24,14 +26,16 @@ pub(crate) fn domains(x: Bit) -> u16
 
 /// A bit that may depend on what both do.
 pub(crate) fn both(x: Bit, y: Bit) -> Bit
-    ensures { label_in result ≡ mixed (label_in x) (label_in y) }
+    ensures mixes { label_in result ≡ mixed (label_in x) (label_in y) }
+    ensures less { result ≢ x → bit_left result < bit_left x }
 {
     Bit::From(domains(x) | domains(y))
 }
 
 /// The least label that is above both.
 pub(crate) fn join(x: Bit, y: Bit) -> Bit
-    ensures { label_in result ≡ join (label_in x) (label_in y) }
+    ensures above { label_in result ≡ join (label_in x) (label_in y) }
+    ensures less { result ≢ x → bit_left result < bit_left x }
 {
     match (x, y) {
         (Bit::Known(true), Bit::Known(true)) => Bit::Known(true),
@@ -42,7 +46,8 @@ pub(crate) fn join(x: Bit, y: Bit) -> Bit
 
 /// Whether both say the same.
 pub(crate) fn is_same(x: Bit, y: Bit) -> bool
-    ensures { result ≡ true → x ≡ y }
+    ensures same { result ≡ true → x ≡ y }
+    ensures other { result ≡ false → x ≢ y }
 {
     match (x, y) {
         (Bit::Known(a), Bit::Known(b)) => a == b,

@@ -29,7 +29,8 @@ abbrev pub of_net : {X : Type 0} → Option Join → (Name → X) → X → X
 of_net None top y = y
 of_net (Some j) top y = top j.net
 
--- what is inside, by the instance's name: f of its leaf, its name and its joins, and other where no instance has the name
+-- what is inside, by the instance's name: f of its leaf, its name and its joins, and other where no instance has the
+-- name
 abbrev pub by_instance : {X : Type 0} → List Leaf → List TopItem → (Option Leaf → Name → List Join → X) → (Name → X)
     → Name → X
 by_instance leaves [] f other n = other n

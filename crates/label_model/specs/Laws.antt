@@ -43,7 +43,8 @@ NetsRise = (d : Design) → IsSound d → (owner : Name → ℕ) (l m : LabelNet
 -- little as it must stays below every lawful labelling
 abbrev pub CarriesBelow : Type 0
 CarriesBelow = (d : Design) → IsSound d → (owner : Name → ℕ) (L : ℕ) (labels : ℕ → LabelNets)
-    → IsLawful d owner L labels → (f : ℕ) → f < L → (l : LabelNets) → AreLabels d owner l → IsKeptBelow d l.inside (labels f).inside
+    → IsLawful d owner L labels → (f : ℕ) → f < L → (l : LabelNets) → AreLabels d owner l
+    → IsKeptBelow d l.inside (labels f).inside
     → EachInstance d (λ leaf k joins.
     AllByRecursion (IsCarried (leaf_widths leaf) (l.inside k) ((labels ((f + 1) % L)).inside k)) leaf.items)
 

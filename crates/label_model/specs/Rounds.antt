@@ -1,4 +1,5 @@
--- The walk from reset through the phases, round by round: each phase joins what the one before hands over to what it had.
+-- The walk from reset through the phases, round by round: each phase joins what the one before hands over to what it
+-- had.
 use Rattle.std.specs.Prelude.{ℕ, zero, suc, ◌-◌}
 use Rattle.vl_tree.specs.Values.{Name, Design}
 use Rattle.label_model.specs.Labels.{join, Labels}

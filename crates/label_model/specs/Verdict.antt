@@ -31,7 +31,8 @@ IsNoLater x y = (x.port ≤ y.port) × (x.port ≡ y.port → (x.phase ≤ y.pha
     × (x.phase ≡ y.phase → x.foreign ≤ y.foreign))
 
 -- it leaks at the place, in one of L phases, and at no earlier one to one of D domains
-pub record IsFirstLeak (D L : ℕ) (owner : Name → ℕ) (labels : ℕ → LabelNets) (ports : List Port) (x : Leak) : Type 0 where
+pub record IsFirstLeak (D L : ℕ) (owner : Name → ℕ) (labels : ℕ → LabelNets) (ports : List Port)
+    (x : Leak) : Type 0 where
   pub leaks : IsLeakAt owner labels ports x
   pub phase : x.phase < L
   pub foreign : x.foreign < D

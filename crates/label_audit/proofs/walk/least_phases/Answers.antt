@@ -1,11 +1,12 @@
-use Rattle.std.proofs.Common.{◌≡◌, ◌-◌, List, replicate, false, true, sym, subst, ◌∙◌, ap}
-use Rattle.std.specs.Prelude.{slice_set}
-use Rattle.label_audit.specs.Walks.{AreFirst, IsWalk, phase_count}
+use Rattle.std.proofs.Common.{◌≡◌, ℕ, ◌-◌, sym, subst}
+use Rattle.std.specs.Prelude.{Some}
+use Rattle.label_audit.specs.Walks.{AreFirst, IsWalk}
 use Rattle.label_audit.proofs.Walks.{first-walk}
 use Rattle.label_audit.proofs.walk.least_phases.Goals as goal
 
-pub loop-init : goal.loop-init
-loop-init c =
+pub loop-waits-init : goal.loop-waits-init
+loop-waits-init c =
     let s = c.args.shape.now in
-    let first = first-walk s c.requires.shape c.in_ok-phases.phases.items (subst (λ n. AreFirst s n c.in_ok-phases.phases.items) c.requires.count c.in_ok-phases.ensures) in
-    subst (IsWalk s c.in_ok-phases.phases.items) (sym (c.in_ok-waits.ensures ∙ ap (λ n. slice_set (replicate n false) (n - 1) true) c.requires.count)) first
+    let phases = c.in_ok-phases.phases.items in
+    let first = first-walk s c.requires.shape phases (subst (λ n. AreFirst s n phases) c.requires.count c.in_ok-phases.ensures) in
+    subst (λ n. IsWalk s phases (Some (n - 1))) (sym c.requires.count) first
