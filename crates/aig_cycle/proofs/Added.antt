@@ -1,11 +1,12 @@
 -- What latches take, one by one.
-use Rattle.std.proofs.Common.{◌≡◌, ℕ, zero, suc, ◌+◌, ◌<◌, ◌≤◌, Bool, false, List, [], ◌∷◌, ◌++◌, length, map, get_or, take, sym, ◌∙◌, ap, arith, append_assoc}
+use Rattle.std.proofs.Common.{◌≡◌, ℕ, zero, suc, ◌+◌, ◌<◌, ◌≤◌, Bool, false, List, [], ◌∷◌, ◌++◌, length, map, get_or, take, sym, ◌∙◌, ap, subst, arith, append_assoc}
 use Rattle.std.specs.Prelude.{flat_map}
 use Rattle.std.proofs.lemmas.List.{map-append, append-nil, take_more, take_all, flat_map_more}
 use Rattle.vl_run.specs.declared.program.Register.{Register}
 use Rattle.vl_run.specs.declared.program.Memory.{Memory}
 use Rattle.aig_model.specs.Form.{literal, word}
 use Rattle.aig_model.specs.FormOf.{bits_from, flipped_bits, words_from}
+use Rattle.aig_model.specs.Netlist.{Net, AreOf}
 use Rattle.aig_cycle.specs.Wires.{numbers, rows}
 use Rattle.aig_cycle.specs.Latches.{register_row, memory_row}
 use Rattle.aig_cycle.proofs.Actions.{number-at, row-at}
@@ -63,3 +64,16 @@ pub added-over : {A : Type 0} (f : (ℕ → Bool) → A → List Bool) (old now'
 added-over f old now' next xs i d lt {g} put says so = λ v e. (
     put v e ∙ ap (λ z. z ++ g v) (so v e) ∙ ap (λ z. (map (literal v) old ++ flat_map (f v) (take i xs)) ++ z) (says v)
     ∙ flat_map_more (f v) (map (literal v) old) (take i xs) (get_or xs i d) ∙ ap (λ ys. map (literal v) old ++ flat_map (f v) ys) (sym (take_more xs i d lt)))
+
+-- ---- the literals are of a net
+
+-- the literals so far are of each net of which what was there and what they are made of is
+abbrev pub AreKnown : (Net → Type 0) → List ℕ → List ℕ → Type 0
+AreKnown P old now' = (n : Net) → 0 < n.start → P n → AreOf n old → AreOf n now'
+
+pub of-both : (n : Net) (xs ys : List ℕ) → AreOf n xs → AreOf n ys → AreOf n (xs ++ ys)
+of-both n [] ys a b = b
+of-both n (x ∷ xs) ys a b = (a.0, of-both n xs ys a.1 b)
+
+pub known-more : (P : Net → Type 0) (old now' more next : List ℕ) → next ≡ now' ++ more → ((n : Net) → 0 < n.start → P n → AreOf n more) → AreKnown P old now' → AreKnown P old next
+known-more P old now' more next put says so = λ n some p a. subst (AreOf n) (sym put) (of-both n now' more (so n some p a) (says n some p))

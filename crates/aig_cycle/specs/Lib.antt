@@ -1,3 +1,4 @@
 pub mod Wires
 pub mod Steps
 pub mod Latches
+pub mod Short

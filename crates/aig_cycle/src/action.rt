@@ -6,6 +6,7 @@ ghost use Rattle.aig_model.specs.Netlist.{Grows, MeansWord, settle_gates};
 ghost use Rattle.vl_model.specs.Meaning.{chosen};
 ghost use Rattle.vl_run.specs.Step.{combined, action_value, word_at};
 ghost use Rattle.aig_cycle.specs.Wires.{numbers, rows, IsWord, AreWords, AreRows, IsMask, IsScale, IsPlain};
+ghost use Rattle.aig_cycle.specs.Short.{lengths, IsShort};
 
 use aig_gates::{Netlist, Row, Way, Word, literals, number_word, part, single, width};
 use std::alloc::{AllocError, Global};
@@ -104,6 +105,7 @@ pub(crate) fn value(
     ensures word { IfOk result (λ r. IsWord netlist.new r) }
     ensures value { IfOk result (λ r. (v : ℕ → Bool) → v 0 ≡ false → let s = settle_gates netlist.old v in
         word (settle_gates netlist.new v) r ≡ action_value (word_at (rows s memories.now)) (slice_index (numbers s nets.now)) action) }
+    ensures short { IfOk result (λ r. (k : ℕ) → IsShort (lengths nets.now) action k → (netlist.new ≡ netlist.old) × (length r ≤ k)) }
 {
     netlist.known();
     match action {

@@ -6,6 +6,7 @@ ghost use Rattle.vl_run.specs.Step.{ran, word_at};
 ghost use Rattle.vl_run.specs.Program.{stored_in};
 ghost use Rattle.aig_cycle.specs.Wires.{numbers, rows, AreWords, AreRows, ArePlain};
 ghost use Rattle.aig_cycle.specs.Steps.{linked_words};
+ghost use Rattle.aig_cycle.specs.Short.{lengths, RunShort};
 
 use crate::action::{memory, value};
 use aig_gates::{Netlist, Row, Word, literals, number_word};
@@ -65,6 +66,7 @@ pub(crate) fn run(
     ensures words { OnOk result (AreWords netlist.new nets.new.items) }
     ensures value { OnOk result ((v : ℕ → Bool) → v 0 ≡ false → let s = settle_gates netlist.old v in
         numbers (settle_gates netlist.new v) nets.new.items ≡ ran (word_at (rows s memories.now)) steps.now (numbers s nets.old.items)) }
+    ensures short { OnOk result (RunShort netlist.old netlist.new steps.now (lengths nets.old.items) (lengths nets.new.items)) }
 {
     for step in steps {
         let bits = value(netlist, alloc, step.action, nets.as_slice(), memories)?;
@@ -116,6 +118,7 @@ pub(crate) fn store(
     ensures words { OnOk result (AreRows netlist.new memories.new.items) }
     ensures value { OnOk result ((v : ℕ → Bool) → v 0 ≡ false → let s = settle_gates netlist.old v in
         rows (settle_gates netlist.new v) memories.new.items ≡ stored_in (numbers s nets.now) stores.now (rows s memories.old.items)) }
+    ensures none { OnOk result (stores.now ≡ [] → netlist.new ≡ netlist.old) }
 {
     for store in stores {
         store_one(netlist, alloc, *store, nets, memories)?;

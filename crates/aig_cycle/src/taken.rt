@@ -1,9 +1,10 @@
 //! What the latches of an instance take.
 
-ghost use Rattle.std.specs.Prelude.{◌≡◌, ℕ, ◌++◌, Bool, false, map, flat_map, slice_index, OnOk, IfOk};
+ghost use Rattle.std.specs.Prelude.{◌≡◌, ℕ, ◌<◌, ◌++◌, Bool, false, map, flat_map, slice_index, OnOk, IfOk};
 ghost use Rattle.aig_model.specs.Form.{literal};
+ghost use Rattle.aig_model.specs.Netlist.{Net, AreOf};
 ghost use Rattle.aig_model.specs.FormOf.{words_from};
-ghost use Rattle.aig_cycle.specs.Wires.{numbers, rows};
+ghost use Rattle.aig_cycle.specs.Wires.{numbers, rows, AreWords, AreRows};
 ghost use Rattle.aig_cycle.specs.Steps.{part_as};
 ghost use Rattle.aig_cycle.specs.Latches.{register_row, memory_row, part_bits};
 
@@ -31,7 +32,8 @@ fn add_registers(
     resets: &Cells,
     all: &mut Word,
 ) -> Result<(), AllocError>
-    ensures { OnOk result ((v : ℕ → Bool) → v 0 ≡ false
+    ensures known { OnOk result ((n : Net) → 0 < n.start → AreWords n nets.now → AreOf n all.old → AreOf n all.new) }
+    ensures value { OnOk result ((v : ℕ → Bool) → v 0 ≡ false
         → map (literal v) all.new ≡ map (literal v) all.old ++ flat_map (register_row resets.now (numbers v nets.now)) registers.now) }
 {
     for register in registers {
@@ -50,7 +52,8 @@ fn add_words(
     count: usize,
     all: &mut Word,
 ) -> Result<(), AllocError>
-    ensures { OnOk result ((v : ℕ → Bool) → v 0 ≡ false
+    ensures known { OnOk result ((n : Net) → 0 < n.start → AreWords n row.now → AreOf n all.old → AreOf n all.new) }
+    ensures value { OnOk result ((v : ℕ → Bool) → v 0 ≡ false
         → map (literal v) all.new ≡ map (literal v) all.old ++ words_from (λ j. slice_index (numbers v row.now) j) high 0 count) }
 {
     for place in 0..count {
@@ -67,7 +70,8 @@ fn add_memories(
     words: &[Row],
     all: &mut Word,
 ) -> Result<(), AllocError>
-    ensures { OnOk result ((v : ℕ → Bool) → v 0 ≡ false
+    ensures known { OnOk result ((n : Net) → 0 < n.start → AreRows n words.now → AreOf n all.old → AreOf n all.new) }
+    ensures value { OnOk result ((v : ℕ → Bool) → v 0 ≡ false
         → map (literal v) all.new ≡ map (literal v) all.old ++ flat_map (memory_row (rows v words.now)) memories.now) }
 {
     for one in memories {
@@ -95,7 +99,8 @@ pub fn next_literals(
     memories: &[Row],
     resets: &Cells,
 ) -> Result<Word, AllocError>
-    ensures { IfOk result (λ r. (v : ℕ → Bool) → v 0 ≡ false → map (literal v) r
+    ensures known { IfOk result (λ r. (n : Net) → 0 < n.start → AreWords n nets.now → AreRows n memories.now → AreOf n r) }
+    ensures value { IfOk result (λ r. (v : ℕ → Bool) → v 0 ≡ false → map (literal v) r
         ≡ part_bits resets.now (part_as v (record { code = program.now; wires = record { nets = nets.now; memories = memories.now } }))) }
 {
     let mut all = Seq::new(alloc);

@@ -1,10 +1,11 @@
 //! Instances of a design, on words.
 
-ghost use Rattle.std.specs.Prelude.{◌≡◌, ℕ, Bool, false, OnOk, map};
+ghost use Rattle.std.specs.Prelude.{◌≡◌, ℕ, Bool, false, List, [], ◌++◌, OnOk, map};
 ghost use Rattle.aig_model.specs.Netlist.{Grows, settle_gates};
 ghost use Rattle.vl_run.specs.State.{settled_by, edged, part_settled, part_edged};
 ghost use Rattle.aig_cycle.specs.Wires.{numbers, AreWords, AreWires, kept_as};
 ghost use Rattle.aig_cycle.specs.Steps.{linked_words, shown_words, part_as, IsPlainCode, IsWired, AreWired};
+ghost use Rattle.aig_cycle.specs.Short.{lengths, Bounds, IsWithin, AreShort, IsShortSettle, AreShortSettles, AreWithin, IsShortEdge, AreShortEdges};
 
 use crate::steps::{copy, run, store};
 use aig_gates::{Netlist, Row, Word};
@@ -42,6 +43,8 @@ fn steady(
     ensures words { OnOk result (AreWires netlist.new (record { nets = nets.new.items; memories = memories.now })) }
     ensures value { OnOk result ((v : ℕ → Bool) → v 0 ≡ false → kept_as (settle_gates netlist.new v) (record { nets = nets.new.items; memories = memories.now })
         ≡ settled_by program.now (kept_as (settle_gates netlist.old v) (record { nets = nets.old.items; memories = memories.now }))) }
+    ensures short { OnOk result ((x : Bounds) → AreShort x program.now.settle (lengths nets.old.items)
+        → (netlist.new ≡ netlist.old) × IsWithin x (lengths nets.new.items)) }
 {
     run(netlist, alloc, program.settle.as_slice(), nets, memories)?;
     Ok(())
@@ -64,6 +67,8 @@ fn move_on(
     ensures value { OnOk result ((v : ℕ → Bool) → v 0 ≡ false → let s = settle_gates netlist.old v in
         kept_as (settle_gates netlist.new v) (record { nets = nets.new.items; memories = memories.new.items })
         ≡ edged program.now (numbers s tops.now) (kept_as s (record { nets = nets.old.items; memories = memories.old.items }))) }
+    ensures short { OnOk result (IsShortEdge tops.now (record { code = program.now; wires = record { nets = nets.old.items; memories = memories.old.items } })
+        → netlist.new ≡ netlist.old) }
 {
     copy(alloc, program.feeds.as_slice(), tops, nets)?;
     run(
@@ -103,6 +108,7 @@ impl Wired {
         ensures grows { Grows netlist.old netlist.new }
         ensures wired { OnOk result (IsWired netlist.new self.new) }
         ensures value { OnOk result ((v : ℕ → Bool) → v 0 ≡ false → part_as (settle_gates netlist.new v) self.new ≡ part_settled (part_as (settle_gates netlist.old v) self.old)) }
+        ensures short { OnOk result ((x : Bounds) → IsShortSettle x self.old → (netlist.new ≡ netlist.old) × IsWithin x (lengths self.new.wires.nets)) }
     {
         steady(
             netlist,
@@ -126,6 +132,7 @@ impl Wired {
         ensures wired { OnOk result (IsWired netlist.new self.new) }
         ensures value { OnOk result ((v : ℕ → Bool) → v 0 ≡ false → let s = settle_gates netlist.old v in
             part_as (settle_gates netlist.new v) self.new ≡ part_edged (numbers s tops.now) (part_as s self.old)) }
+        ensures short { OnOk result (IsShortEdge tops.now self.old → netlist.new ≡ netlist.old) }
     {
         move_on(
             netlist,
@@ -160,6 +167,7 @@ pub fn settle_all(
     ensures grows { Grows netlist.old netlist.new }
     ensures wired { OnOk result (AreWired netlist.new parts.new) }
     ensures value { OnOk result ((v : ℕ → Bool) → v 0 ≡ false → map (part_as (settle_gates netlist.new v)) parts.new ≡ map part_settled (map (part_as (settle_gates netlist.old v)) parts.old)) }
+    ensures short { OnOk result ((xs : List Bounds) → AreShortSettles xs parts.old → (netlist.new ≡ netlist.old) × AreWithin xs parts.new) }
 {
     for part in parts.iter_mut() {
         part.settle(netlist, alloc)?;
@@ -180,6 +188,7 @@ pub fn edge_all(
     ensures wired { OnOk result (AreWired netlist.new parts.new) }
     ensures value { OnOk result ((v : ℕ → Bool) → v 0 ≡ false → let s = settle_gates netlist.old v in
         map (part_as (settle_gates netlist.new v)) parts.new ≡ map (part_edged (numbers s tops.now)) (map (part_as s) parts.old)) }
+    ensures short { OnOk result (AreShortEdges tops.now parts.old → netlist.new ≡ netlist.old) }
 {
     for part in parts.iter_mut() {
         part.edge(netlist, alloc, tops)?;

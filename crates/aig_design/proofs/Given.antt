@@ -8,7 +8,7 @@ use Rattle.aig_model.specs.FormOf.{AreBits, bits_from, in_way, all_bits, FitPort
 use Rattle.aig_design.specs.Start.{kept_bits, input_ports, fits_port, number_bits}
 use Rattle.aig_design.specs.Laws.{StandAt, InputsHaveNumbers}
 
-given-bits : (t : Name → ℕ) (h : ℕ → ℕ) (given : Name → ℕ) (ps : List Port) → StandAt t h given ps → kept_bits (λ (p : Port). t p.name) number_bits h (input_ports ps) ≡ all_bits false given ps
+pub given-bits : (t : Name → ℕ) (h : ℕ → ℕ) (given : Name → ℕ) (ps : List Port) → StandAt t h given ps → kept_bits (λ (p : Port). t p.name) number_bits h (input_ports ps) ≡ all_bits false given ps
 given-bits t h given [] a = refl
 given-bits t h given (p ∷ ps) a = go p.output refl (given-bits t h given ps a.1)
   where

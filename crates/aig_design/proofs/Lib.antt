@@ -6,3 +6,14 @@ pub mod Shown
 pub mod Inputs
 pub mod Plain
 pub mod Given
+pub mod Named
+pub mod Stood
+pub mod OnePart
+pub mod AllParts
+pub mod Topped
+pub mod Cycled
+pub mod Formed
+pub mod Opening
+pub mod Brief
+pub mod Free
+pub mod Written

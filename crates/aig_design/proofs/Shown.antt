@@ -6,17 +6,19 @@ use Rattle.std.proofs.lemmas.List.{get_or-map, append-nil, take_more, flat_map_m
 use Rattle.vl_tree.specs.declared.tree.Port.{Port}
 use Rattle.vl_tree.specs.Values.{Name}
 use Rattle.aig_model.specs.Form.{literal, word}
+use Rattle.aig_model.specs.Netlist.{Net, AreOf}
 use Rattle.aig_model.specs.FormOf.{bits_from, in_way, port_bits, all_bits}
 use Rattle.vl_run.specs.State.{Part}
 use Rattle.vl_run.specs.Top.{places_of}
 use Rattle.aig_gates.specs.Zips.{AreBelow}
 use Rattle.aig_cycle.specs.Wires.{numbers}
-use Rattle.aig_cycle.specs.Steps.{Wired, part_as}
+use Rattle.aig_cycle.specs.Steps.{Wired, part_as, IsWired, AreWired}
 use Rattle.aig_cycle.specs.Latches.{part_bits}
 use Rattle.aig_design.specs.Start.{instance_bits}
 use Rattle.aig_cycle.proofs.Actions.{number-at}
 use Rattle.aig_design.proofs.Rows.{length-bits}
-use Rattle.aig_cycle.proofs.Added.{AreAdded, added-none, added-more, added-all}
+use Rattle.aig_cycle.proofs.Added.{AreAdded, added-none, added-more, added-all, of-both}
+use Rattle.aig_cycle.proofs.Running.{wired-at}
 
 -- the numbers of the top's nets by name, where names stand at t
 abbrev pub top_numbers : (Name → ℕ) → List (List ℕ) → (ℕ → Bool) → Name → ℕ
@@ -98,11 +100,12 @@ passed-skip ports i d first mid lt out z f =
 
 -- the literals so far have the bits of the first i instances
 pub record AreTaken (resets : List (List ℕ)) (parts : List Wired) (made : List ℕ) (i : ℕ) : Type 0 where
+  pub known : (n : Net) → 0 < n.start → AreWired n parts → AreOf n made
   pub value : (v : ℕ → Bool) → v 0 ≡ false → map (literal v) made ≡ instance_bits (take i resets) (map (part_as v) (take i parts))
 
 pub instances-none : (resets : List (List ℕ)) (parts : List Wired) → AreTaken resets parts [] 0
-instances-none [] parts = record { value = λ v e. refl }
-instances-none (r ∷ rs) parts = record { value = λ v e. refl }
+instances-none [] parts = record { known = λ n some a. tt; value = λ v e. refl }
+instances-none (r ∷ rs) parts = record { known = λ n some a. tt; value = λ v e. refl }
 
 instances-push : (rs : List (List ℕ)) (xs : List Part) (r : List ℕ) (x : Part) → length rs ≡ length xs → instance_bits (rs ++ r ∷ []) (xs ++ x ∷ []) ≡ instance_bits rs xs ++ part_bits r x
 instances-push [] [] r x e = append-nil (part_bits r x)
@@ -117,8 +120,9 @@ long-take (x ∷ xs) zero le = refl
 long-take (x ∷ xs) (suc i) le = let e = long-take xs i (omega (arith, le)) in omega (arith, e)
 
 pub instances-more : (resets : List (List ℕ)) (parts : List Wired) (made new bits : List ℕ) (i : ℕ) (r : List ℕ) (x : Wired) → i < length resets → i < length parts → r ≡ get_or resets i r → x ≡ get_or parts i x → new ≡ made ++ bits
-    → ((v : ℕ → Bool) → v 0 ≡ false → map (literal v) bits ≡ part_bits r (part_as v x)) → AreTaken resets parts made i → AreTaken resets parts new (i + 1)
-instances-more resets parts made new bits i r x lr lx er ex put says z = record {
+    → ((n : Net) → 0 < n.start → IsWired n x → AreOf n bits) → ((v : ℕ → Bool) → v 0 ≡ false → map (literal v) bits ≡ part_bits r (part_as v x)) → AreTaken resets parts made i → AreTaken resets parts new (i + 1)
+instances-more resets parts made new bits i r x lr lx er ex put low says z = record {
+  known = λ n some a. subst (AreOf n) (sym put) (of-both n made bits (z.known n some a) (low n some (wired-at n parts i x lx ex a)));
   value = λ v e.
       let count : length (take i resets) ≡ length (map (part_as v) (take i parts)) = (
       let a = long-take resets i (omega (arith, lr)) in

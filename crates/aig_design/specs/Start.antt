@@ -1,5 +1,5 @@
 -- Words of variables that a cycle begins with: of registers, memories and input ports, at their places.
-use Rattle.std.specs.Prelude.{◌≡◌, ℕ, ◌+◌, ◌<◌, ◌≤◌, ◌^◌, ◌==◌, Bool, not, List, [], ◌∷◌, ◌++◌, filter, length, flat_map, slice_index, slice_index_or, replicate, if◌then◌else◌}
+use Rattle.std.specs.Prelude.{◌≡◌, ℕ, ◌+◌, ◌<◌, ◌≤◌, ◌^◌, ◌==◌, Bool, true, not, List, [], ◌∷◌, ◌++◌, filter, length, flat_map, slice_index, slice_index_or, replicate, if◌then◌else◌}
 use Rattle.std.specs.List.{AllByRecursion, list_any}
 use Rattle.aig_model.specs.Form.{word}
 use Rattle.aig_model.specs.FormOf.{AreBits, bits_from, flipped_bits, words_from}
@@ -12,6 +12,7 @@ use Rattle.vl_run.specs.State.{Part}
 use Rattle.aig_cycle.specs.Wires.{numbers, IsWord, AreWords}
 use Rattle.aig_cycle.specs.Steps.{Wired}
 use Rattle.aig_cycle.specs.Latches.{part_bits}
+use Rattle.aig_cycle.specs.Short.{Bounds, IsWithin, lengths}
 
 -- whether one of these stands at the place
 abbrev pub has_place : {A : Type 0} → (A → ℕ) → List A → ℕ → Bool
@@ -54,6 +55,10 @@ register_bits resets r x = flipped_bits x (slice_index resets r.place) 0 (r.high
 -- registers have words of variables
 abbrev pub AreRegistersPut : List ℕ → ℕ → ℕ → List Register → List (List ℕ) → List (List ℕ) → Type 0
 AreRegistersPut resets first next rs old new = ArePut register_place is_narrow_register fits_register (register_bits resets) IsWord word [] first next rs old new
+
+-- a register is no wider than the bounds of its place
+abbrev pub IsBounded : Bounds → Register → Type 0
+IsBounded b r = (n : Name) → b.known n ≡ true → b.place n ≡ r.place → r.high + 1 ≤ b.most n
 
 -- ---- memories
 
@@ -100,6 +105,10 @@ number_bits p x = bits_from x 0 (p.high + 1)
 abbrev pub AreInputsPut : (Name → ℕ) → ℕ → ℕ → List Port → List (List ℕ) → List (List ℕ) → Type 0
 AreInputsPut t first next ps old new = ArePut (λ (p : Port). t p.name) is_narrow_port fits_port number_bits IsWord word [] first next ps old new
 
+-- an input port, of which the names stand at t, is no wider than the bounds of its place
+abbrev pub IsBoundedPort : (Name → ℕ) → Bounds → Port → Type 0
+IsBoundedPort t b p = (n : Name) → b.known n ≡ true → b.place n ≡ t p.name → p.high + 1 ≤ b.most n
+
 -- ---- instances
 
 -- variables from first to next make the words of an instance. All other words have no literal
@@ -108,6 +117,7 @@ pub record IsLaid (first next : ℕ) (x : Part) (w : Wired) : Type 0 where
   pub middle : ℕ
   pub registers : AreRegistersPut x.kept.nets first middle x.code.registers (replicate (length x.kept.nets) []) w.wires.nets
   pub memories : AreMemoriesPut middle next x.code.memories (replicate (length x.kept.memories) []) w.wires.memories
+  pub short : (b : Bounds) → AllByRecursion (IsBounded b) x.code.registers → IsWithin b (lengths w.wires.nets)
 
 -- an instance behind these variables, and all that follow
 pub record IsLaidThen (first : ℕ) (x : Part) (w : Wired) (reset : List ℕ) (more : ℕ → Type 0) : Type 0 where

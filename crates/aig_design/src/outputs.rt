@@ -4,11 +4,12 @@ ghost use Rattle.std.specs.Prelude.{◌≡◌, ℕ, ◌<◌, ◌++◌, Bool, fal
 ghost use Rattle.std.specs.List.{AllByRecursion};
 ghost use Rattle.vl_tree.specs.Values.{Name};
 ghost use Rattle.aig_model.specs.Form.{literal};
+ghost use Rattle.aig_model.specs.Netlist.{Net, AreOf};
 ghost use Rattle.aig_model.specs.FormOf.{all_bits};
 ghost use Rattle.vl_run.specs.Top.{places_of};
 ghost use Rattle.aig_gates.specs.Zips.{AreBelow};
 ghost use Rattle.aig_cycle.specs.Wires.{numbers};
-ghost use Rattle.aig_cycle.specs.Steps.{part_as};
+ghost use Rattle.aig_cycle.specs.Steps.{part_as, AreWired};
 ghost use Rattle.aig_design.specs.Start.{instance_bits};
 
 use crate::start::place_at;
@@ -59,7 +60,8 @@ pub fn output_literals(
 ///
 /// Memory ran out.
 pub fn latch_literals(alloc: Global, parts: &[Wired], resets: &[Cells]) -> Result<Word, AllocError>
-    ensures { IfOk result (λ r. (v : ℕ → Bool) → v 0 ≡ false → map (literal v) r ≡ instance_bits resets.now (map (part_as v) parts.now)) }
+    ensures known { IfOk result (λ r. (n : Net) → 0 < n.start → AreWired n parts.now → AreOf n r) }
+    ensures value { IfOk result (λ r. (v : ℕ → Bool) → v 0 ≡ false → map (literal v) r ≡ instance_bits resets.now (map (part_as v) parts.now)) }
 {
     let mut all = Seq::new(alloc);
     for i in 0..parts.len().min(resets.len()) {

@@ -5,7 +5,9 @@ ghost use Rattle.vl_tree.specs.Values.{Name};
 ghost use Rattle.aig_model.specs.FormOf.{all_bits};
 ghost use Rattle.vl_run.specs.declared.program.Memory.{Memory};
 ghost use Rattle.vl_run.specs.Top.{places_of};
-ghost use Rattle.aig_design.specs.Start.{input_ports, AreInputsPut, AreRegistersPut, IsMemoryMade, AreMemoriesPut, IsLaid, AreLaid};
+ghost use Rattle.std.specs.List.{AllByRecursion};
+ghost use Rattle.aig_cycle.specs.Short.{Bounds, IsWithin, lengths};
+ghost use Rattle.aig_design.specs.Start.{IsBounded, IsBoundedPort, input_ports, AreInputsPut, AreRegistersPut, IsMemoryMade, AreMemoriesPut, IsLaid, AreLaid};
 
 use aig_cycle::{Wired, latch_word, put, put_row};
 use aig_gates::{Row, Word};
@@ -14,7 +16,7 @@ use surf_base::Seq;
 use vl_run::{Cells, Memory, Part, Program, Register, State};
 use vl_tree::Port;
 
-/// So many variables are refused as want of memory, so that no literal overflows.
+/// So many variables are answered as out of memory, so that no literal overflows.
 const MOST: u64 = 1 << 61;
 
 /// Variables that are taken in order.
@@ -78,6 +80,7 @@ fn put_registers(
     requires { 0 < variables.old.next }
     ensures front { OnOk result (0 < variables.new.next) }
     ensures put { OnOk result (AreRegistersPut resets.now variables.old.next variables.new.next registers.now nets.old.items nets.new.items) }
+    ensures short { OnOk result ((b : Bounds) → AllByRecursion (IsBounded b) registers.now → IsWithin b (lengths nets.old.items) → IsWithin b (lengths nets.new.items)) }
 {
     for register in registers {
         let first = variables.take(register.high)?;
@@ -243,8 +246,10 @@ pub fn put_inputs(
     tops: &mut Vec<Word>,
 ) -> Result<(), AllocError>
     requires { 0 < variables.old.next }
-    ensures { OnOk result ((t : Name → ℕ) → places.now ≡ places_of t ports.now
+    ensures put { OnOk result ((t : Name → ℕ) → places.now ≡ places_of t ports.now
         → AreInputsPut t variables.old.next variables.new.next (input_ports ports.now) tops.old.items tops.new.items) }
+    ensures short { OnOk result ((t : Name → ℕ) → places.now ≡ places_of t ports.now → (b : Bounds) → AllByRecursion (IsBoundedPort t b) ports.now
+        → IsWithin b (lengths tops.old.items) → IsWithin b (lengths tops.new.items)) }
 {
     for (i, port) in ports.iter().enumerate() {
         if !port.output {

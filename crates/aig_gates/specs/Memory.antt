@@ -22,7 +22,8 @@ pub record IsHalved (old new : Net) (row : List (List ℕ)) (bit : ℕ) (made : 
       ≡ word (settle_gates old v) (slice_index_or row (2 * k + one_if_true (literal (settle_gates old v) bit)) [])
 
 -- the words are those that the first i bits of the index name
-pub record IsSelected (old new : Net) (row : List (List ℕ)) (index : List ℕ) (made : List (List ℕ)) (i : ℕ) : Type 0 where
+pub record IsSelected (old new : Net) (row : List (List ℕ)) (index : List ℕ) (made : List (List ℕ))
+    (i : ℕ) : Type 0 where
   pub grows : Grows old new
   pub known : AreWords new made
   pub within : (most : ℕ) → AreWithin most row → AreWithin most made
@@ -30,7 +31,8 @@ pub record IsSelected (old new : Net) (row : List (List ℕ)) (index : List ℕ)
       ≡ word (settle_gates old v) (slice_index_or row (2 ^ i * k + word (settle_gates old v) (take i index)) [])
 
 -- the first i words are the row's, but for the value where it is stored
-pub record IsStored (old new : Net) (row : List (List ℕ)) (enable : ℕ) (index value : List ℕ) (made : List (List ℕ)) (i : ℕ) : Type 0 where
+pub record IsStored (old new : Net) (row : List (List ℕ)) (enable : ℕ) (index value : List ℕ) (made : List (List ℕ))
+    (i : ℕ) : Type 0 where
   pub grows : Grows old new
   pub known : AreWords new made
   pub count : length made ≡ i

@@ -33,12 +33,13 @@ impl Model for Netlist {
     ghost invariant = { λ a. IsReady (record { start = a.start; gates = a.gates.keys }) };
 }
 
-/// So many gates are refused as want of memory, so that no literal overflows.
+/// As many gates count as out of memory, so that no literal overflows.
 const MOST: usize = 1 << 61;
 
 /// The conjunction of two literals, where it needs no gate.
 fn folded(first: u64, second: u64) -> Option<u64>
-    ensures value { IfSome result (λ x. (v : ℕ → Bool) → v 0 ≡ false → literal v x ≡ (literal v first && literal v second)) }
+    ensures value { IfSome result (λ x. (v : ℕ → Bool) → v 0 ≡ false
+        → literal v x ≡ (literal v first && literal v second)) }
     ensures known { IfSome result (λ x. (n : ℕ) → first < n → second < n → x < n) }
 {
     if first == 0 || second == 0 {
@@ -111,7 +112,8 @@ impl Netlist {
         requires second { IsOf self.now second }
         ensures grows { Grows self.old self.new }
         ensures known { IfOk result (λ x. IsOf self.new x) }
-        ensures value { IfOk result (λ x. (f g : (ℕ → Bool) → Bool) → Means self.old first f → Means self.old second g → Means self.new x (λ v. f v && g v)) }
+        ensures value { IfOk result (λ x. (f g : (ℕ → Bool) → Bool) → Means self.old first f → Means self.old second g
+            → Means self.new x (λ v. f v && g v)) }
     {
         let _ = &self.start;
         if let Some(literal) = folded(first, second) {
@@ -138,7 +140,8 @@ impl Netlist {
         requires second { IsOf self.now second }
         ensures grows { Grows self.old self.new }
         ensures known { IfOk result (λ x. IsOf self.new x) }
-        ensures value { IfOk result (λ x. (f g : (ℕ → Bool) → Bool) → Means self.old first f → Means self.old second g → Means self.new x (λ v. differ (f v) (g v))) }
+        ensures value { IfOk result (λ x. (f g : (ℕ → Bool) → Bool) → Means self.old first f → Means self.old second g
+            → Means self.new x (λ v. differ (f v) (g v))) }
     {
         let both = self.and(first, second)?;
         let none = self.and(complement(first), complement(second))?;
@@ -152,7 +155,8 @@ impl Netlist {
         requires second { IsOf self.now second }
         ensures grows { Grows self.old self.new }
         ensures known { IfOk result (λ x. IsOf self.new x) }
-        ensures value { IfOk result (λ x. (f g : (ℕ → Bool) → Bool) → Means self.old first f → Means self.old second g → Means self.new x (λ v. f v || g v)) }
+        ensures value { IfOk result (λ x. (f g : (ℕ → Bool) → Bool) → Means self.old first f → Means self.old second g
+            → Means self.new x (λ v. f v || g v)) }
     {
         let neither = self.and(complement(first), complement(second))?;
         Ok(complement(neither))
@@ -165,7 +169,8 @@ impl Netlist {
         requires second { IsOf self.now second }
         ensures grows { Grows self.old self.new }
         ensures known { IfOk result (λ x. IsOf self.new x) }
-        ensures value { IfOk result (λ x. (h f g : (ℕ → Bool) → Bool) → Means self.old test h → Means self.old first f → Means self.old second g → Means self.new x (λ v. if h v then f v else g v)) }
+        ensures value { IfOk result (λ x. (h f g : (ℕ → Bool) → Bool) → Means self.old test h → Means self.old first f
+            → Means self.old second g → Means self.new x (λ v. if h v then f v else g v)) }
     {
         if first == second {
             return Ok(first);
@@ -183,7 +188,8 @@ impl Netlist {
         requires before { IsOf self.now before }
         ensures grows { Grows self.old self.new }
         ensures known { IfOk result (λ x. IsOf self.new x) }
-        ensures value { IfOk result (λ x. (f g h : (ℕ → Bool) → Bool) → Means self.old first f → Means self.old second g → Means self.old before h → Means self.new x (λ v. (not (f v) && g v) || (h v && not (f v && not (g v))))) }
+        ensures value { IfOk result (λ x. (f g h : (ℕ → Bool) → Bool) → Means self.old first f → Means self.old second g
+            → Means self.old before h → Means self.new x (λ v. (not (f v) && g v) || (h v && not (f v && not (g v))))) }
     {
         let less = self.and(complement(first), second)?;
         let more = self.and(first, complement(second))?;
@@ -199,7 +205,8 @@ impl Netlist {
         requires carry { IsOf self.now carry }
         ensures grows { Grows self.old self.new }
         ensures known { IfOk result (λ x. IsOf self.new x) }
-        ensures value { IfOk result (λ x. (f g h : (ℕ → Bool) → Bool) → Means self.old first f → Means self.old second g → Means self.old carry h → Means self.new x (λ v. differ (differ (f v) (g v)) (h v))) }
+        ensures value { IfOk result (λ x. (f g h : (ℕ → Bool) → Bool) → Means self.old first f → Means self.old second g
+            → Means self.old carry h → Means self.new x (λ v. differ (differ (f v) (g v)) (h v))) }
     {
         let odd = self.differ(first, second)?;
         let bit = self.differ(odd, carry)?;
@@ -214,8 +221,10 @@ impl Netlist {
         ensures grows { Grows self.old self.new }
         ensures bit { IfOk result (λ r. IsOf self.new r.bit) }
         ensures over { IfOk result (λ r. IsOf self.new r.carry) }
-        ensures value { IfOk result (λ r. (f g h : (ℕ → Bool) → Bool) → Means self.old first f → Means self.old second g → Means self.old carry h
-            → Means self.new r.bit (λ v. differ (differ (f v) (g v)) (h v)) × Means self.new r.carry (λ v. majority (f v) (g v) (h v))) }
+        ensures value { IfOk result (λ r. (f g h : (ℕ → Bool) → Bool) → Means self.old first f → Means self.old second g
+            → Means self.old carry h
+            → Means self.new r.bit (λ v. differ (differ (f v) (g v)) (h v))
+            × Means self.new r.carry (λ v. majority (f v) (g v) (h v))) }
     {
         let odd = self.differ(first, second)?;
         let bit = self.differ(odd, carry)?;
@@ -241,7 +250,8 @@ impl Netlist {
         requires second { AreOf self.now second.now }
         requires carry { IsOf self.now carry }
         ensures grows { Grows self.old self.new }
-        ensures value { IfOk result (λ r. IsRipple self.new first.now second.now carry r.bits r.carry (length first.now)) }
+        ensures value { IfOk result (λ r. IsRipple self.new first.now second.now carry r.bits r.carry
+            (length first.now)) }
     {
         let mut bits = Seq::new(alloc);
         let mut over = carry;

@@ -59,7 +59,8 @@ impl Netlist {
         requires index { AreOf self.now index.now }
         ensures grows { Grows self.old self.new }
         ensures within { IfOk result (λ r. (most : ℕ) → AreWithin most row.now → length r ≤ most) }
-        ensures value { IfOk result (λ r. MeansWord self.new r (λ v. let s = settle_gates self.old v in slice_index (map (word s) row.now) (word s index.now))) }
+        ensures value { IfOk result (λ r. MeansWord self.new r
+            (λ v. let s = settle_gates self.old v in slice_index (map (word s) row.now) (word s index.now))) }
     {
         let mut words = copied(alloc, row)?;
         for bit in index {
@@ -84,9 +85,12 @@ impl Netlist {
         requires value { AreOf self.now value.now }
         ensures grows { Grows self.old self.new }
         ensures known { IfOk result (λ r. AreWords self.new r) }
-        ensures within { IfOk result (λ r. (most : ℕ) → AreWithin most row.now → length value.now ≤ most → AreWithin most r) }
+        ensures within { IfOk result (λ r. (most : ℕ) → AreWithin most row.now → length value.now ≤ most
+            → AreWithin most r) }
         ensures words { IfOk result (λ r. (v : ℕ → Bool) → v 0 ≡ false → map (word (settle_gates self.new v)) r
-            ≡ (let s = settle_gates self.old v in if literal s enable then slice_set (map (word s) row.now) (word s index.now) (word s value.now) else map (word s) row.now)) }
+            ≡ (let s = settle_gates self.old v in if literal s enable
+            then slice_set (map (word s) row.now) (word s index.now) (word s value.now)
+            else map (word s) row.now)) }
     {
         self.known();
         let mut all = Seq::new(alloc);

@@ -1,3 +1,5 @@
+//! Words of literals, computed for worked inputs.
+
 ghost use Rattle.std.specs.Prelude.{◌≡◌, ◌<◌, []};
 
 use crate::{Netlist, Way, Word};

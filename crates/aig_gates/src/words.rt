@@ -70,7 +70,8 @@ pub fn part(alloc: Global, bits: &[u64], low: usize, count: usize) -> Result<Wor
 fn joined(alloc: Global, back: &[u64], count: usize, front: &[u64]) -> Result<Word, AllocError>
     ensures known { IfOk result (λ r. (k : ℕ) → 0 < k → AreBelow k back.now → AreBelow k front.now → AreBelow k r) }
     ensures count { IfOk result (λ r. length r ≡ count + length front.now) }
-    ensures value { IfOk result (λ r. (v : ℕ → Bool) → v 0 ≡ false → word v r ≡ word v back.now % 2 ^ count + 2 ^ count * word v front.now) }
+    ensures value { IfOk result (λ r. (v : ℕ → Bool) → v 0 ≡ false
+        → word v r ≡ word v back.now % 2 ^ count + 2 ^ count * word v front.now) }
 {
     let mut all = padded(alloc, back, count)?;
     for literal in front {
@@ -111,6 +112,7 @@ pub fn complements(alloc: Global, bits: &[u64]) -> Result<Word, AllocError>
     Ok(all)
 }
 
+/// The length of the longer word.
 fn longer(first: &[u64], second: &[u64]) -> usize
     ensures { result ≡ max (length first.now) (length second.now) }
 {
@@ -118,13 +120,15 @@ fn longer(first: &[u64], second: &[u64]) -> usize
 }
 
 impl Netlist {
+    /// What is made of two literals.
     fn pair(&mut self, way: Way, first: u64, second: u64) -> Result<u64, AllocError>
         requires way { IsWayOf self.now way }
         requires first { IsOf self.now first }
         requires second { IsOf self.now second }
         ensures grows { Grows self.old self.new }
         ensures known { IfOk result (λ x. IsOf self.new x) }
-        ensures value { IfOk result (λ x. (f g : (ℕ → Bool) → Bool) → Means self.old first f → Means self.old second g → Means self.new x (λ v. paired way (settle_gates self.old v) (f v) (g v))) }
+        ensures value { IfOk result (λ x. (f g : (ℕ → Bool) → Bool) → Means self.old first f → Means self.old second g
+            → Means self.new x (λ v. paired way (settle_gates self.old v) (f v) (g v))) }
     {
         match way {
             Way::And => self.and(first, second),
@@ -134,6 +138,7 @@ impl Netlist {
         }
     }
 
+    /// What is made of two words of one length, bit by bit.
     fn zip(
         &mut self,
         alloc: Global,
@@ -169,7 +174,8 @@ impl Netlist {
         requires second { AreOf self.now second.now }
         ensures grows { Grows self.old self.new }
         ensures count { IfOk result (λ r. length r ≡ max (length first.now) (length second.now)) }
-        ensures value { IfOk result (λ r. MeansWord self.new r (λ v. let s = settle_gates self.old v in combined way s (word s first.now) (word s second.now))) }
+        ensures value { IfOk result (λ r. MeansWord self.new r
+            (λ v. let s = settle_gates self.old v in combined way s (word s first.now) (word s second.now))) }
     {
         self.known();
         let count = longer(first, second);
@@ -193,7 +199,9 @@ impl Netlist {
         requires carry { IsOf self.now carry }
         ensures grows { Grows self.old self.new }
         ensures count { IfOk result (λ r. length r ≡ length first.now) }
-        ensures value { IfOk result (λ r. MeansWord self.new r (λ v. let s = settle_gates self.old v in (word s first.now + word s second.now + one_if_true (literal s carry)) % 2 ^ length first.now)) }
+        ensures value { IfOk result (λ r. MeansWord self.new r
+            (λ v. let s = settle_gates self.old v in
+            (word s first.now + word s second.now + one_if_true (literal s carry)) % 2 ^ length first.now)) }
     {
         let Some(last) = first.len().checked_sub(1) else {
             return Ok(Seq::new(alloc));
@@ -217,7 +225,8 @@ impl Netlist {
         requires second { AreOf self.now second.now }
         ensures grows { Grows self.old self.new }
         ensures count { IfOk result (λ r. length r ≡ count) }
-        ensures value { IfOk result (λ r. MeansWord self.new r (λ v. let s = settle_gates self.old v in (word s first.now + word s second.now) % 2 ^ count)) }
+        ensures value { IfOk result (λ r. MeansWord self.new r
+            (λ v. let s = settle_gates self.old v in (word s first.now + word s second.now) % 2 ^ count)) }
     {
         self.known();
         let wide = padded(alloc, first, count)?;
@@ -238,7 +247,9 @@ impl Netlist {
         requires second { AreOf self.now second.now }
         ensures grows { Grows self.old self.new }
         ensures count { IfOk result (λ r. length r ≡ count) }
-        ensures value { IfOk result (λ r. MeansWord self.new r (λ v. let s = settle_gates self.old v in (word s first.now + (2 ^ count - word s second.now % 2 ^ count)) % 2 ^ count)) }
+        ensures value { IfOk result (λ r. MeansWord self.new r
+            (λ v. let s = settle_gates self.old v in
+            (word s first.now + (2 ^ count - word s second.now % 2 ^ count)) % 2 ^ count)) }
     {
         self.known();
         let wide = padded(alloc, first, count)?;
@@ -248,6 +259,7 @@ impl Netlist {
         Ok(bits)
     }
 
+    /// Whether the first of two words of one length has the lower number.
     fn lower(&mut self, first: &[u64], second: &[u64]) -> Result<u64, AllocError>
         requires same { length first.now ≡ length second.now }
         requires first { AreOf self.now first.now }
@@ -268,7 +280,8 @@ impl Netlist {
         requires first { AreOf self.now first.now }
         requires second { AreOf self.now second.now }
         ensures grows { Grows self.old self.new }
-        ensures value { IfOk result (λ x. Means self.new x (λ v. let s = settle_gates self.old v in nat_lt (word s first.now) (word s second.now))) }
+        ensures value { IfOk result (λ x. Means self.new x
+            (λ v. let s = settle_gates self.old v in nat_lt (word s first.now) (word s second.now))) }
     {
         self.known();
         let count = longer(first, second);
@@ -297,7 +310,8 @@ impl Netlist {
         requires first { AreOf self.now first.now }
         requires second { AreOf self.now second.now }
         ensures grows { Grows self.old self.new }
-        ensures value { IfOk result (λ x. Means self.new x (λ v. let s = settle_gates self.old v in word s first.now == word s second.now)) }
+        ensures value { IfOk result (λ x. Means self.new x
+            (λ v. let s = settle_gates self.old v in word s first.now == word s second.now)) }
     {
         let apart = self.combine(alloc, Way::Xor, first, second)?;
         let differ = self.any(apart.as_slice())?;
@@ -309,7 +323,8 @@ impl Netlist {
         requires { AreOf self.now bits.now }
         ensures grows { Grows self.old self.new }
         ensures count { IfOk result (λ r. length r ≡ count) }
-        ensures value { IfOk result (λ r. MeansWord self.new r (λ v. 2 ^ count - 1 - word (settle_gates self.old v) bits.now)) }
+        ensures value { IfOk result (λ r. MeansWord self.new r
+            (λ v. 2 ^ count - 1 - word (settle_gates self.old v) bits.now)) }
         ensures free { length bits.now ≤ count → self.new ≡ self.old }
     {
         self.known();
@@ -337,7 +352,8 @@ impl Netlist {
         ensures grows { Grows self.old self.new }
         ensures small { IfOk result (λ r. length r ≤ 64) }
         ensures count { IfOk result (λ r. length back.now ≤ count → length r ≤ count + length front.now) }
-        ensures value { IfOk result (λ r. MeansWord self.new r (λ v. let s = settle_gates self.old v in (word s front.now * 2 ^ count + word s back.now) % 2 ^ 64)) }
+        ensures value { IfOk result (λ r. MeansWord self.new r
+            (λ v. let s = settle_gates self.old v in (word s front.now * 2 ^ count + word s back.now) % 2 ^ 64)) }
         ensures free { length back.now ≤ count → self.new ≡ self.old }
     {
         self.known();

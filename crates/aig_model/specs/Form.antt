@@ -3,8 +3,8 @@ use Rattle.std.specs.Prelude.{ℕ, zero, suc, ◌+◌, ◌-◌, ◌*◌, ◌/◌
 use Rattle.std.specs.List.{AllByRecursion}
 use Rattle.aig_model.specs.declared.form.Gate.{Gate}
 
--- a form: how many inputs, the next literal of each latch, the literal of each output, and the gates. Input i is variable
--- i + 1, and the latches' variables stand behind the inputs', the gates' behind those
+-- a form: how many inputs, the next literal of each latch, the literal of each output, and the gates. Input i is
+-- variable i + 1, and the latches' variables stand behind the inputs', the gates' behind those
 pub record Form : Type 0 where
   pub inputs : ℕ
   pub latches : List ℕ

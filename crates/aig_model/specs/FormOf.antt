@@ -121,7 +121,8 @@ FitPorts numbers ps = AllByRecursion (λ (p : Port). p.output ≡ false → numb
 
 -- in each cycle the inputs of the form are the bits of the design's, which fit their ports
 abbrev pub AreInputs : Design → (ℕ → Name → ℕ) → (ℕ → ℕ → Bool) → Type 0
-AreInputs d given bits = (t : ℕ) → FitPorts (given t) d.top.ports × AreBits (all_bits false (given t) d.top.ports) (bits t) 0
+AreInputs d given bits = (t : ℕ) → FitPorts (given t) d.top.ports
+    × AreBits (all_bits false (given t) d.top.ports) (bits t) 0
 
 -- for all inputs the form's outputs and latches are bit by bit the design's, from memories of 0
 pub record IsFormOf (d : Design) (f : Form) : Type 0 where

@@ -1,4 +1,4 @@
-use Rattle.std.proofs.Common.{◌≡◌, ℕ, ◌+◌, ◌-◌, ◌*◌, ◌/◌, ◌%◌, ◌^◌, ◌<◌, ◌≤◌, Bool, false, List, [], length, map, get_or, sym, subst, ◌∙◌, ap}
+use Rattle.std.proofs.Common.{◌≡◌, ℕ, ◌+◌, ◌-◌, ◌*◌, ◌/◌, ◌%◌, ◌^◌, ◌<◌, ◌≤◌, Bool, false, List, [], length, map, get_or, refl, sym, subst, ◌∙◌, ap, arith}
 use Rattle.std.specs.Prelude.{IfOk, slice_index}
 use Rattle.aig_model.specs.Form.{word}
 use Rattle.aig_model.specs.Netlist.{Net, MeansWord, settle_gates}
@@ -11,8 +11,13 @@ use Rattle.aig_gates.specs.Zips.{AreBelow}
 use Rattle.aig_gates.proofs.Inserted.{no-variable}
 use Rattle.aig_gates.proofs.Zipped.{if-ok, bound-some}
 use Rattle.aig_cycle.specs.Wires.{numbers, rows, IsWord, AreWords, IsMask, IsScale, IsPlain}
+use Rattle.aig_cycle.specs.Short.{lengths, IsShort}
+use Rattle.aig_cycle.proofs.Shorter.{pow-fits}
 use Rattle.aig_cycle.proofs.Actions.{both-ok, word-number, row-at, word-of, row-of, known-words, narrow-words, part-known, mask-width, masked-part, joined-number}
 use Rattle.aig_cycle.proofs.action.value.Goals as goal
+
+abbrev Brief : Net → Net → List (List ℕ) → Action → List ℕ → Type 0
+Brief old new nets a r = (k : ℕ) → IsShort (lengths nets) a k → (new ≡ old) × (length r ≤ k)
 
 abbrev Says : Net → Net → List (List ℕ) → List (List (List ℕ)) → Action → List ℕ → Type 0
 Says old new nets ms a r = (v : ℕ → Bool) → v 0 ≡ false → let s = settle_gates old v in word (settle_gates new v) r ≡ action_value (word_at (rows s ms)) (slice_index (numbers s nets)) a
@@ -141,3 +146,72 @@ returns-in-Join-clause-value c =
     (λ r h v e. h.value v e ∙ joined-number (word (settle_gates n v) a) (word (settle_gates n v) b) scale k le is
     ∙ ap (λ x. (x * scale % 2 ^ 64 + word (settle_gates n v) b) % 2 ^ 64) (word-number (settle_gates n v) nets c.in-Join.front a c.literals-in-Join.ensures)
     ∙ ap (λ x. (get_or (numbers (settle_gates n v) nets) c.in-Join.front 0 * scale % 2 ^ 64 + x) % 2 ^ 64) (word-number (settle_gates n v) nets c.in-Join.back b c.literals-in-Join-2.ensures)) c.join.ensures.value)
+
+pub returns-in-Number-clause-short : goal.returns-in-Number-clause-short
+returns-in-Number-clause-short c =
+    let n = c.args.netlist.now in
+    subst (λ a. IfOk c.number_word.result (Brief n n c.args.nets.now a)) (sym c.in-Number.is)
+    (if-ok c.number_word.result (λ r. (w : ℕ) → c.in-Number.number < 2 ^ w → length r ≤ w) (Brief n n c.args.nets.now (Number c.in-Number.number)) (λ r h k e. (refl, h k e)) c.number_word.ensures.count)
+
+pub returns-in-Bits-clause-short : goal.returns-in-Bits-clause-short
+returns-in-Bits-clause-short c =
+    let n = c.args.netlist.now in
+    subst (λ a. IfOk c.part.result (Brief n n c.args.nets.now a)) (sym c.in-Bits.is)
+    (if-ok c.part.result (λ r. length r ≡ c.width.result) (Brief n n c.args.nets.now (Bits c.in-Bits.from c.in-Bits.low c.in-Bits.mask))
+    (λ r h k e. (refl, (let l = c.width.ensures.least k e in omega (arith, h, l)))) c.part.ensures.count)
+
+pub returns-in-Not-clause-short : goal.returns-in-Not-clause-short
+returns-in-Not-clause-short c =
+    let n = c.args.netlist.now in
+    let from = c.in-Not.from in
+    let mask = c.in-Not.mask in
+    let w = c.width-in-Not.result in
+    let lits = c.literals-in-Not.result.now in
+    let m : IsMask mask = subst IsPlain c.in-Not.is c.requires.plain in
+    let own = mask-width mask w m c.width-in-Not.ensures.fits c.width-in-Not.ensures.least in
+    let below = c.width-in-Not.ensures.fits in
+    let long : length lits ≡ lengths c.args.nets.now from = ap length c.literals-in-Not.ensures in
+    subst (λ a. IfOk c.minus.result (Brief n c.minus.new.self c.args.nets.now a)) (sym c.in-Not.is)
+    (if-ok c.minus.result (λ r. length r ≡ w) (Brief n c.minus.new.self c.args.nets.now (Not from mask))
+    (λ r h k e. (
+    let l = c.width-in-Not.ensures.least k e.0 in
+    let e1 = e.1 in
+    let fits : lengths c.args.nets.now from ≤ w = pow-fits (lengths c.args.nets.now from) w (omega (arith, e1, below)) in
+    (c.minus.ensures.free (omega (arith, long, fits)), omega (arith, h, l)))) c.minus.ensures.count)
+
+pub returns-in-Two-clause-short : goal.returns-in-Two-clause-short
+returns-in-Two-clause-short c =
+    let n = c.args.netlist.now in
+    subst (λ z. IfOk c.two.result (Brief n c.two.new.netlist c.args.nets.now z)) (sym c.in-Two.is)
+    (if-ok c.two.result (λ r. length r ≤ 64) (Brief n c.two.new.netlist c.args.nets.now (Two c.in-Two.op c.in-Two.mask c.in-Two.left c.in-Two.right)) (λ r h k e. absurd e) c.two.ensures.narrow)
+
+pub returns-in-Choose-clause-short : goal.returns-in-Choose-clause-short
+returns-in-Choose-clause-short c =
+    let n = c.args.netlist.now in
+    subst (λ z. IfOk c.choice.result (Brief n c.choice.new.netlist c.args.nets.now z)) (sym c.in-Choose.is)
+    (if-ok c.choice.result (λ r. length r ≤ 64) (Brief n c.choice.new.netlist c.args.nets.now (Choose c.in-Choose.test c.in-Choose.first c.in-Choose.second)) (λ r h k e. absurd e) c.choice.ensures.narrow)
+
+pub returns-in-Load-clause-short : goal.returns-in-Load-clause-short
+returns-in-Load-clause-short c =
+    let n = c.args.netlist.now in
+    subst (λ z. IfOk c.select.result (Brief n c.select.new.self c.args.nets.now z)) (sym c.in-Load.is)
+    (if-ok c.select.result (λ r. (most : ℕ) → memory.AreWithin most c.memory.result.now → length r ≤ most) (Brief n c.select.new.self c.args.nets.now (Load c.in-Load.place c.in-Load.index)) (λ r h k e. absurd e) c.select.ensures.within)
+
+pub returns-in-Join-clause-short : goal.returns-in-Join-clause-short
+returns-in-Join-clause-short c =
+    let n = c.args.netlist.now in
+    let nets = c.args.nets.now in
+    let a = c.literals-in-Join.result.now in
+    let b = c.literals-in-Join-2.result.now in
+    let w = c.shift.result in
+    let front : length a ≡ lengths nets c.in-Join.front = ap length c.literals-in-Join.ensures in
+    let back : length b ≡ lengths nets c.in-Join.back = ap length c.literals-in-Join-2.ensures in
+    subst (λ z. IfOk c.join.result (Brief n c.join.new.self nets z)) (sym c.in-Join.is)
+    (if-ok c.join.result (λ r. length b ≤ w → length r ≤ w + length a) (Brief n c.join.new.self nets (Join c.in-Join.front c.in-Join.scale c.in-Join.back))
+    (λ r h k j. (
+    let own : w ≡ j.width = c.shift.ensures j.width j.narrow j.is in
+    let f = j.fits in
+    let m = j.most in
+    let fits : length b ≤ w = omega (arith, own, f, back) in
+    let most = h fits in
+    (c.join.ensures.free fits, omega (arith, most, m, own, front)))) c.join.ensures.count)

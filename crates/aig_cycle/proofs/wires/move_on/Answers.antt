@@ -1,4 +1,4 @@
-use Rattle.std.proofs.Common.{◌∙◌, ap, sym, subst}
+use Rattle.std.proofs.Common.{[], ◌++◌, ◌∙◌, ap, sym, subst}
 use Rattle.aig_model.specs.Netlist.{settle_gates}
 use Rattle.aig_model.proofs.Netlists.{grows-twice}
 use Rattle.vl_run.specs.State.{Code}
@@ -6,6 +6,8 @@ use Rattle.vl_run.specs.Step.{ran, word_at}
 use Rattle.vl_run.specs.Program.{stored_in}
 use Rattle.aig_cycle.specs.Wires.{numbers, rows, AreWords, AreRows}
 use Rattle.aig_cycle.specs.Steps.{linked_words}
+use Rattle.aig_cycle.specs.Short.{lengths, Bounds, AreShort}
+use Rattle.aig_cycle.proofs.Shorter.{shorts-end}
 use Rattle.aig_cycle.proofs.Running.{words-wider, rows-wider, numbers-grown, rows-grown, linked-words, edge-is}
 use Rattle.aig_cycle.proofs.wires.move_on.Goals as goal
 
@@ -62,3 +64,20 @@ returns-clause-value c v e =
     (c.in_ok-run-3.ensures.value v e ∙ ap (λ m. ran (word_at (rows (settle_gates n3 v) m)) c.as_slice-8.result.now (numbers (settle_gates n3 v) z)) c.as_slice-9.ensures.value
     ∙ ap (λ ss. ran (word_at (rows (settle_gates n3 v) after)) ss (numbers (settle_gates n3 v) z)) moves)
     (rows-grown n3 n4 c.run-3.ensures.grows v after c.in_ok-store.ensures.words)
+
+pub returns-clause-short : goal.returns-clause-short
+returns-clause-short c h =
+    let p = c.args.program.now in
+    let x : Bounds = h.bounds in
+    let feeds = c.as_slice.ensures.value ∙ ap (λ (q : Code). q.feeds) c.program.view_is in
+    let settle = c.as_slice-2.ensures.value ∙ ap (λ (q : Code). q.settle) c.program.view_is in
+    let next = c.as_slice-4.ensures.value ∙ ap (λ (q : Code). q.next) c.program.view_is in
+    let stores = c.as_slice-6.ensures.value ∙ ap (λ (q : Code). q.stores) c.program.view_is in
+    let moves = c.as_slice-8.ensures.value ∙ ap (λ (q : Code). q.moves) c.program.view_is in
+    let fed = c.in_ok-copy.ensures ∙ ap (λ ls. linked_words c.args.tops.now ls c.args.nets.now.items) feeds in
+    let start : AreShort x (p.settle ++ (p.next ++ p.moves)) (lengths c.copy.new.to.items) = subst (λ z. AreShort x (p.settle ++ (p.next ++ p.moves)) (lengths z)) (sym fed) h.steps in
+    let one = c.in_ok-run.ensures.short x (p.next ++ p.moves) (subst (λ z. AreShort x (z ++ (p.next ++ p.moves)) (lengths c.copy.new.to.items)) (sym settle) start) in
+    let two = c.in_ok-run-2.ensures.short x p.moves (subst (λ z. AreShort x (z ++ p.moves) (lengths c.run.new.nets.items)) (sym next) one.1) in
+    let three = c.in_ok-run-3.ensures.short x []
+    (subst (λ z. AreShort x (z ++ []) (lengths c.run-2.new.nets.items)) (sym moves) (shorts-end x p.moves (lengths c.run-2.new.nets.items) two.1)) in
+    three.0 ∙ c.in_ok-store.ensures.none (stores ∙ h.stores) ∙ two.0 ∙ one.0

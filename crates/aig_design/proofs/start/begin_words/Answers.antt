@@ -12,4 +12,4 @@ returns-clause-laid c =
     (ap (λ (q : Kept). q.nets) c.state.view_is)
     (c.in_ok-nets.ensures ∙ ap (λ k. replicate k []) (c.len.ensures ∙ ap (λ (q : Kept). length q.nets) c.state.view_is))
     (c.in_ok-memories.ensures ∙ ap (λ k. replicate k []) (ap length c.as_slice-2.ensures.value ∙ ap (λ (q : Kept). length q.memories) c.state.view_is))
-    c.in_ok-put_registers.ensures.put c.in_ok-put_memories.ensures.put
+    c.in_ok-put_registers.ensures.put c.in_ok-put_memories.ensures.put c.in_ok-put_registers.ensures.short

@@ -3,6 +3,7 @@ use Rattle.aig_model.specs.Netlist.{settle_gates}
 use Rattle.vl_run.specs.State.{part_edged}
 use Rattle.aig_cycle.specs.Wires.{numbers, AreWires}
 use Rattle.aig_cycle.specs.Steps.{Wired, part_as, IsPlainCode}
+use Rattle.aig_cycle.specs.Short.{IsShortEdge}
 use Rattle.aig_cycle.proofs.wires.Wired.edge.Goals as goal
 
 pub move_on-requires : goal.move_on-requires
@@ -23,3 +24,6 @@ returns-clause-value c v e =
     subst
     (λ (x : Wired). part_as u (record { code = c.self.inside.program; wires = record { nets = c.move_on.new.nets.items; memories = c.move_on.new.memories.items } }) ≡ part_edged (numbers s c.args.tops.now) (part_as s x))
     c.self.view_is (λ t. record { code = c.self.inside.program; kept = here t })
+
+pub returns-clause-short : goal.returns-clause-short
+returns-clause-short c h = c.in_ok-move_on.ensures.short (subst (IsShortEdge c.args.tops.now) (sym c.self.view_is) h)

@@ -3,6 +3,7 @@ use Rattle.aig_model.specs.Netlist.{settle_gates}
 use Rattle.vl_run.specs.State.{part_settled, settled_by}
 use Rattle.aig_cycle.specs.Wires.{AreWires, kept_as}
 use Rattle.aig_cycle.specs.Steps.{Wired, part_as, IsPlainCode}
+use Rattle.aig_cycle.specs.Short.{IsShortSettle}
 use Rattle.aig_cycle.proofs.wires.Wired.settle.Goals as goal
 
 pub steady-requires-clause-plain : goal.steady-requires-clause-plain
@@ -27,3 +28,6 @@ returns-clause-value c v e =
     c.as_slice.ensures.value (c.in_ok-steady.ensures.value v e) in
     subst (λ (x : Wired). part_as u (record { code = c.self.inside.program; wires = record { nets = c.steady.new.nets.items; memories = c.self.inside.memories.items } }) ≡ part_settled (part_as s x)) c.self.view_is
     (λ t. record { code = c.self.inside.program; kept = here t })
+
+pub returns-clause-short : goal.returns-clause-short
+returns-clause-short c x h = c.in_ok-steady.ensures.short x (subst (IsShortSettle x) (sym c.self.view_is) h)
