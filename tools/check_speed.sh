@@ -1,7 +1,8 @@
 #!/usr/bin/env bash
-# Times `surf check` on the largest descriptions: 256 tiles, 16 domains, names of 16 bytes, 1,024 ranges, and comments up to
-# the limit of a description. Builds the program where it is missing, as `surf` does.
-# Prints a line for each: what it has, its bytes, the seconds of the fastest of five runs, the status, and what surf said.
+# Times `surf check` on the largest descriptions: 256 tiles, 16 domains, names of 16 bytes, 1,024 ranges, and comments
+# up to the limit of a description. Builds the program where it is missing, as `surf` does.
+# Prints a line for each: what it has, its bytes, the seconds of the fastest of five runs, the status, and what surf
+# said.
 set -eu
 top=$(dirname "$(dirname "$(readlink -f "$0")")")
 program=$top/crates/surf/out/surf
@@ -9,8 +10,8 @@ folder=$(mktemp -d)
 trap 'rm -rf "$folder"' EXIT
 TIMEFORMAT=%R
 
-# A description of about a megabyte. Each tile hosts so many of the domains in turn; of so many ranges, one for each address,
-# the last has the address of the one before it where that is wanted.
+# A description of about a megabyte. Each tile hosts so many of the domains in turn; of so many ranges, one for each
+# address, the last has the address of the one before it where that is wanted.
 describe() {
   awk -v hosted="$1" -v ranges="$2" -v overlap="$3" -v limit=1048576 '
     function name(d) { return sprintf("\"the_domain_no_%02d\"", d % 16) }

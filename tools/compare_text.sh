@@ -1,9 +1,9 @@
 #!/usr/bin/env bash
-# Runs a Verilog text under a trace by `surf replay`, and by Icarus Verilog and Verilator where they are installed, and says
-# whether they print the same reports, and how many cycles a second each ran.
+# Runs a Verilog text under a trace by `surf replay`, and by Icarus Verilog and Verilator where they are installed, and
+# says whether they print the same reports, and how many cycles a second each ran.
 # Usage: tools/compare_text.sh DESCRIPTION TEXT TRACE CYCLES [SURF]
 # SURF is the program, `surf` of this checkout where it isn't named. Files go to a folder that is removed at the end.
-# Other tools begin with memories of unknown bits, `surf` with 0: a text that shows what a memory held at first may differ.
+# Other tools begin with memories of unknown bits, `surf` with 0: a text that shows a memory's first content may differ.
 # The status is 1 where a report differs or Verilator refuses the text.
 set -eu
 top=$(dirname "$(dirname "$(readlink -f "$0")")")

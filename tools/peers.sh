@@ -1,10 +1,11 @@
 #!/usr/bin/env bash
-# Compiles a description and says what other tools say of the text: Icarus Verilog, Yosys and Verilator read it, Yosys counts
-# its cells, and under each trace that is named Icarus Verilog and Verilator run it, whose reports are compared with `surf`'s.
+# Compiles a description and says what other tools say of the text: Icarus Verilog, Yosys and Verilator read it, Yosys
+# counts its cells, and under each trace that is named Icarus Verilog and Verilator run it, whose reports are compared
+# with `surf`'s.
 # Usage: tools/peers.sh [DESCRIPTION [TRACE CYCLES]..]
 # Without words it takes the descriptions of examples/ with their traces. SURF in the environment names another program
-# `surf`, and SYNTH=no leaves the count out. A tool that isn't installed is skipped. The status is 1 where a tool warned of
-# a text (for Verilator: of more than DECLFILENAME and UNUSEDSIGNAL) or a report differs.
+# `surf`, and SYNTH=no leaves the count out. A tool that isn't installed is skipped. The status is 1 where a tool warned
+# of a text (for Verilator: of more than DECLFILENAME and UNUSEDSIGNAL) or a report differs.
 set -eu
 top=$(dirname "$(dirname "$(readlink -f "$0")")")
 surf=${SURF:-$top/surf}

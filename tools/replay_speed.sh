@@ -1,8 +1,8 @@
 #!/usr/bin/env bash
-# Times `surf replay` of a Verilog text under a trace: reading and judging the text, and how many cycles a second then run.
+# Times `surf replay` of a Verilog text under a trace: reading and judging it, and how many cycles a second then run.
 # Usage: tools/replay_speed.sh DESCRIPTION TEXT TRACE CYCLES [SURF]
-# SURF is the program, `surf` of this checkout where it isn't named. Each time is that of the fastest of three runs. Where
-# Icarus Verilog or Verilator is installed, tools/compare_text.sh then runs the same cycles by it.
+# SURF is the program, `surf` of this checkout where it isn't named. Each time is that of the fastest of three runs.
+# Where Icarus Verilog or Verilator is installed, tools/compare_text.sh then runs the same cycles by it.
 set -eu
 top=$(dirname "$(dirname "$(readlink -f "$0")")")
 if [ $# -lt 4 ]; then

@@ -1,9 +1,9 @@
 #!/usr/bin/env bash
-# Times `surf simulate` on large networks: an 8 by 8 torus of 4 domains of 2 channels in which one packet moves, and a 16 by 16
-# mesh of 16 domains in which nothing does. With the words DESCRIPTION TRACE CYCLES it times that run too.
+# Times `surf simulate` on large networks: an 8 by 8 torus of 4 domains of 2 channels in which one packet moves, and a
+# 16 by 16 mesh of 16 domains in which nothing does. With the words DESCRIPTION TRACE CYCLES it times that run too.
 # Builds the program where it is missing, as `surf` does.
-# Prints a line for each: what it has, the processor seconds of the fastest of five runs, the cycles a second, and the status. Reading the
-# files and writing the reports is included.
+# Prints a line for each: what it has, the processor seconds of the fastest of five runs, the cycles a second, and the
+# status. Reading the files and writing the reports is included.
 set -eu
 top=$(dirname "$(dirname "$(readlink -f "$0")")")
 program=$top/crates/surf/out/surf
@@ -11,7 +11,8 @@ folder=$(mktemp -d)
 trap 'rm -rf "$folder"' EXIT
 TIMEFORMAT=%U
 
-# A square network: its shape, its side, its domains and their channels, the depth of a buffer, and how many domains a tile hosts.
+# A square network: its shape, its side, its domains and their channels, the depth of a buffer, and how many domains a
+# tile hosts.
 describe() {
   awk -v shape="$1" -v side="$2" -v domains="$3" -v channels="$4" -v buffer="$5" -v hosted="$6" '
     function name(d) { return sprintf("\"d%d\"", d % domains) }
@@ -41,10 +42,10 @@ timed() {
 
 describe torus 8 4 2 4 4 >"$folder/torus.toml"
 echo "0 0 d0 send 23 1 2 3 4" >"$folder/torus.trace"
-timed "an 8 by 8 torus, 4 domains, one packet" "$folder/torus.toml" "$folder/torus.trace" 4096
+timed "an 8 by 8 torus, 4 domains, one packet" "$folder/torus.toml" "$folder/torus.trace" 65536
 describe mesh 16 16 1 1 1 >"$folder/mesh.toml"
 : >"$folder/empty.trace"
-timed "a 16 by 16 mesh, 16 domains, no packet" "$folder/mesh.toml" "$folder/empty.trace" 1024
+timed "a 16 by 16 mesh, 16 domains, no packet" "$folder/mesh.toml" "$folder/empty.trace" 65536
 if [ "$#" = 3 ]; then
   timed "$(basename "$1") under $(basename "$2")" "$1" "$2" "$3"
 fi

@@ -5,14 +5,6 @@ use Rattle.std.proofs.lemmas.Bool.Decides.{nat_tests}
 use Rattle.surf_base.specs.Numbers.{decimal_in}
 use Rattle.noc_model.specs.Limits.{most_cycles}
 use Rattle.noc_model.specs.Plan.{Plan}
-use Rattle.noc_model.specs.Sound.{IsSound}
-use Rattle.noc_desc.specs.Draft as table
-use Rattle.noc_desc.specs.Draft.{draft_of}
-use Rattle.noc_desc.specs.declared.Draft.{Draft}
-use Rattle.noc_desc.specs.declared.DescFault.{DescFault}
-use Rattle.desc_check.specs.Network.{plan_of_draft}
-use Rattle.desc_check.specs.Accepted.{first_fault}
-use Rattle.desc_check.proofs.Sound.{sound}
 use Rattle.vl_tree.proofs.Designs.{one_spelled}
 use Rattle.gen_kit.specs.Right.{IsRightDesign, IsRightText}
 use Rattle.right_design.proofs.Apart.{domains-apart}
@@ -23,7 +15,7 @@ use Rattle.surf_cli.specs.Files.{limit_of, file_of}
 use Rattle.surf_cli.specs.Contents.{Contents}
 use Rattle.surf_cli.specs.Jobs.{Simulate, Replay, Compile, command}
 use Rattle.surf_cli.specs.declared.statuses.End.TheVariants.{TooLong}
-use Rattle.surf_cli.specs.Meaning.{Outcome, Does, Stops, TextOf, Makes, Judged, Faulty, Described, judged_plan, judged_draft, judged, with_judged, with_plan, over, meaning}
+use Rattle.surf_cli.specs.Meaning.{Outcome, Does, Stops, TextOf, Makes, Judged, Faulty, Described, judged, with_judged, with_plan, over, meaning}
 use Rattle.surf_cli.specs.Compiled.{CompiledIsSimulated, CompileThenReplay, CompiledDomainsApart}
 use Rattle.surf_cli.proofs.Replaying.{commands-agree}
 
@@ -34,26 +26,6 @@ text-made held description bytes p e plan right =
     let meant = ap (λ d. with_plan d (λ q. Does (TextOf q))) (sym e) ∙ plan (λ q. Does (TextOf q)) in
     subst (λ m. Makes m bytes) (sym meant) right
 
--- ---- the plan of an accepted description is sound
-
--- the plan that a description says
-abbrev plan_or : Plan → Judged → Plan
-plan_or other (Faulty fault) = other
-plan_or other (Described plan) = plan
-
-plan-sound : (fault : Option DescFault) (q p : Plan) → (fault ≡ None → IsSound q) → judged_plan fault q ≡ Described p → IsSound p
-plan-sound None q p always e = subst IsSound (ap (plan_or q) e) (always refl)
-plan-sound (Some fault) q p always e = absurd cc
-
-draft-sound : (fault : Option DescFault) (o : Option Draft) (p : Plan) → judged_draft fault o ≡ Described p → IsSound p
-draft-sound (Some fault) o p e = absurd cc
-draft-sound None None p e = absurd cc
-draft-sound None (Some d) p e = plan-sound (first_fault d) (plan_of_draft d) p (sound d) e
-
-described-sound : (bytes : List ℕ) (p : Plan) → judged bytes ≡ Described p → IsSound p
-unfolding judged
-described-sound bytes p e = draft-sound (table.first_fault bytes) (draft_of bytes) p e
-
 -- ---- the laws
 
 pub compiled-is-simulated : CompiledIsSimulated
@@ -62,7 +34,7 @@ compiled-is-simulated held cycles made = go (judged held.description) refl made
     go : (j : Judged) → judged held.description ≡ j → Makes (with_judged j (λ p. Does (TextOf p))) held.text
         → over (Replay cycles) held ≡ over (Simulate cycles) held
     go (Faulty fault) is made = absurd made
-    go (Described p) is made = commands-agree p held cycles is (described-sound held.description p is) made
+    go (Described p) is made = commands-agree p held cycles is made
 
 -- what the files of a replay hold
 abbrev held_of : List ℕ → List ℕ → List ℕ → Contents

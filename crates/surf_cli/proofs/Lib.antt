@@ -12,5 +12,8 @@ pub mod Readings
 pub mod Runnings
 pub mod TextReads
 pub mod Replays
+pub mod Described
 pub mod Replaying
 pub mod Compiled
+pub mod Audited
+pub mod Formed

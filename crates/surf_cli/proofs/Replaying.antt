@@ -36,6 +36,7 @@ use Rattle.surf_cli.specs.Replay.{replayed_report, replayed_text}
 use Rattle.surf_cli.specs.TextRead.{unless, judged_design, judged_text}
 use Rattle.surf_cli.specs.Meaning.{Exactly, Does, with_judged, with_text, with_trace, if_sound}
 use Rattle.surf_cli.specs.Laws.{ReplayIsSimulate, CommandsAgree}
+use Rattle.surf_cli.proofs.Described.{described-sound}
 use Rattle.surf_cli.proofs.Simulated.{alike}
 use Rattle.surf_cli.proofs.TextReads.{read-spelled}
 use Rattle.surf_cli.proofs.Texts.{texts-same}
@@ -188,7 +189,7 @@ replay-is-simulate p text trace cycles sound right =
     ∙ ap (λ bytes. with_trace p trace (λ es. Does (Exactly bytes))) (reports-same p right.design (entries p (lines trace)) cycles sound right.right (small-entries p (lines trace)))
 
 pub commands-agree : CommandsAgree
-commands-agree p held cycles e sound right =
+commands-agree p held cycles e right =
     ap (λ j. with_judged j (λ q. with_text q held.text (λ d. with_trace q held.trace (λ es. Does (Exactly (replayed_text q d es cycles)))))) e
-    ∙ replay-is-simulate p held.text held.trace cycles sound right
+    ∙ replay-is-simulate p held.text held.trace cycles (described-sound held.description p e) right
     ∙ sym (ap (λ j. with_judged j (λ q. with_trace q held.trace (λ es. Does (Exactly (reports_text q es cycles))))) e)

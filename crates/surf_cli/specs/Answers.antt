@@ -19,6 +19,8 @@ use Rattle.noc_model.specs.Report.{report}
 use Rattle.surf_cli.specs.Simulate.{reports_of, events_of}
 use Rattle.surf_cli.specs.Stress.{summary_of}
 use Rattle.surf_cli.specs.Meaning.{Outcome, Halts}
+use Rattle.aig_model.specs.Text as form_text
+use Rattle.aig_out.specs.Forms.{form_of}
 
 -- the bytes of a text that is not written yet
 abbrev pub text_of : Text → List ℕ
@@ -29,6 +31,7 @@ text_of (text.Reports reports) = reports_of reports.plan (events_of reports.even
 text_of (text.Report one) = report one.plan one.domain (events_of one.events one.domain)
 text_of (text.Summary summary) = summary_of summary.plan (events_of summary.events)
 text_of (text.Bytes bytes) = bytes.items
+text_of (text.Form one) = form_text.text_of (form_of one.aig)
 
 -- what the files hold is refused
 pub record Refuses (m : Outcome) (end : End) : Type 0 where

@@ -7,7 +7,7 @@ use Rattle.noc_model.specs.Limits.{most_cycles}
 use Rattle.desc_check.specs.Words.{is_name}
 use Rattle.surf_cli.specs.Limits.{table_cycles, most_number}
 use Rattle.surf_cli.specs.Files.{NamedFile, file_of}
-use Rattle.surf_cli.specs.Jobs.{Schedule, Check, Routes, Simulate, Report, Upgrade, Replay, Audit, Stress, Compile, Command, command}
+use Rattle.surf_cli.specs.Jobs.{Schedule, Check, Routes, Simulate, Report, Upgrade, Replay, Audit, Stress, Compile, Aiger, Command, command}
 
 -- schedule DESC CYCLES
 abbrev pub schedule_words : List (List ℕ) → Option Command
@@ -71,6 +71,11 @@ abbrev pub compile_words : List (List ℕ) → Option Command
 compile_words (description ∷ []) = Some (command (file_of Description description ∷ []) Compile)
 compile_words _ = None
 
+-- aiger DESC
+abbrev pub aiger_words : List (List ℕ) → Option Command
+aiger_words (description ∷ []) = Some (command (file_of Description description ∷ []) Aiger)
+aiger_words _ = None
+
 -- the command of a verb and the words after it
 abbrev pub command_by : List ℕ → List (List ℕ) → Option Command
 command_by verb args =
@@ -84,6 +89,7 @@ command_by verb args =
     else if bytes_eq verb (codes "audit") then audit_words args
     else if bytes_eq verb (codes "stress") then stress_words args
     else if bytes_eq verb (codes "compile") then compile_words args
+    else if bytes_eq verb (codes "aiger") then aiger_words args
     else None
 
 -- the command that the words are; nothing where they are no row of the table of commands

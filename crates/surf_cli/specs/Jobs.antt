@@ -15,6 +15,7 @@ pub data Job : Type 0 where
   Audit : Job
   Stress : (number cycles : ℕ) → Job
   Compile : Job
+  Aiger : Job
 
 -- the files that the words name, and what is to be done
 pub record Command : Type 0 where

@@ -16,6 +16,7 @@ pub mod Simulate
 pub mod Stress
 pub mod TextRead
 pub mod Replay
+pub mod FormText
 pub mod Meaning
 pub mod Answers
 pub mod Runs

@@ -9,6 +9,10 @@ table_cycles = 4096
 abbrev pub most_number : ℕ
 most_number = 4294967295
 
+-- the most places of a network whose form is written
+abbrev pub form_places : ℕ
+form_places = 4096
+
 -- the most bytes of a description
 abbrev pub description_limit : ℕ
 description_limit = 1048576

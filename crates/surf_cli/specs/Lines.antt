@@ -12,7 +12,7 @@ use Rattle.surf_cli.specs.declared.statuses.Status.TheVariants as status
 use Rattle.surf_cli.specs.declared.statuses.End.{End}
 use Rattle.surf_cli.specs.declared.statuses.End.TheVariants.{Good, Usage, Refused, Read, Write, Memory, TooLong}
 use Rattle.surf_cli.specs.declared.refusals.Refusal.{Refusal}
-use Rattle.surf_cli.specs.declared.refusals.Refusal.TheVariants.{Description, NoDomain, Text, Trace, Leak}
+use Rattle.surf_cli.specs.declared.refusals.Refusal.TheVariants.{Description, NoDomain, Text, Trace, Leak, Size}
 
 -- the number that the process ends with
 abbrev pub number_of : Status → ℕ
@@ -27,6 +27,7 @@ number_of status.Write = 7
 number_of status.Memory = 8
 number_of status.TooLong = 9
 number_of status.Domain = 10
+number_of status.Size = 11
 
 -- the status of a refusal
 abbrev pub status_of_refusal : Refusal → Status
@@ -35,6 +36,7 @@ status_of_refusal NoDomain = status.Domain
 status_of_refusal (Text fault) = status.Text
 status_of_refusal (Trace fault) = status.Trace
 status_of_refusal (Leak port phase foreign) = status.Leak
+status_of_refusal Size = status.Size
 
 -- the line of a refusal
 abbrev pub line_of_refusal : Refusal → List ℕ
@@ -43,6 +45,7 @@ line_of_refusal NoDomain = codes "surf: no such domain\n"
 line_of_refusal (Text fault) = text.line_of fault
 line_of_refusal (Trace fault) = trace.line_of fault
 line_of_refusal (Leak port phase foreign) = leak_text port phase foreign
+line_of_refusal Size = codes "surf: too many places\n"
 
 -- the refusal carries a fault of what was read, and not that memory ran out
 abbrev pub IsOfContents : Refusal → Type 0
@@ -51,6 +54,7 @@ IsOfContents NoDomain = Unit {0}
 IsOfContents (Text fault) = text_fault.IsMemory fault → ⊥
 IsOfContents (Trace fault) = trace.place_of fault ≢ None
 IsOfContents (Leak port phase foreign) = Unit {0}
+IsOfContents Size = Unit {0}
 
 -- the status of an end
 abbrev pub status_of : End → Status

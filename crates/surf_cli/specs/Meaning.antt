@@ -1,7 +1,7 @@
 -- What a command means: the text that it writes, or how it ends without one.
-use Rattle.std.specs.Prelude.{◌≡◌, ℕ, List, ◌∷◌, length, nat_le, if◌then◌else◌, Option, Some, None, Result, Ok, Err}
+use Rattle.std.specs.Prelude.{◌≡◌, ℕ, List, ◌∷◌, length, nat_le, nat_lt, if◌then◌else◌, Option, Some, None, Result, Ok, Err}
 use Rattle.std.specs.Str.Lines.{lines}
-use Rattle.noc_model.specs.Plan.{Plan, domain_named}
+use Rattle.noc_model.specs.Plan.{Plan, domain_named, places}
 use Rattle.noc_desc.specs.Draft as table
 use Rattle.noc_desc.specs.Draft.{table_of, draft_of}
 use Rattle.noc_desc.specs.Document.{document}
@@ -24,10 +24,10 @@ use Rattle.surf_cli.specs.declared.files.FileKind.{FileKind}
 use Rattle.surf_cli.specs.declared.statuses.End.{End}
 use Rattle.surf_cli.specs.declared.statuses.End.TheVariants.{Usage, Refused, Read, TooLong}
 use Rattle.surf_cli.specs.declared.refusals.Refusal.{Refusal}
-use Rattle.surf_cli.specs.declared.refusals.Refusal.TheVariants.{Description, NoDomain, Text, Trace, Leak}
+use Rattle.surf_cli.specs.declared.refusals.Refusal.TheVariants.{Description, NoDomain, Text, Trace, Leak, Size}
 use Rattle.surf_cli.specs.Files.{NamedFile, limit_of}
 use Rattle.surf_cli.specs.Contents.{Contents, nothing, with_content}
-use Rattle.surf_cli.specs.Jobs.{Job, Schedule, Check, Routes, Simulate, Report, Upgrade, Replay, Audit, Stress, Compile, Command}
+use Rattle.surf_cli.specs.Jobs.{Job, Schedule, Check, Routes, Simulate, Report, Upgrade, Replay, Audit, Stress, Compile, Aiger, Command}
 use Rattle.surf_cli.specs.Schedule.{schedule_text}
 use Rattle.surf_cli.specs.Accepted.{accepted_text}
 use Rattle.surf_cli.specs.Routes.{routes_text}
@@ -36,12 +36,16 @@ use Rattle.surf_cli.specs.Stress.{stress_text}
 use Rattle.surf_cli.specs.TextRead.{judged_text}
 use Rattle.surf_cli.specs.Replay.{replayed_text}
 use Rattle.surf_cli.specs.AuditLines.{isolated_text}
+use Rattle.surf_cli.specs.Limits.{form_places}
+use Rattle.surf_cli.specs.FormText.{IsFormText}
 
--- what is to be written: these bytes, a document of version 2 that says this plan, or a right text of it
+-- what is to be written: these bytes, a document of version 2 that says this plan, a right text of it, or the text of a form
+-- of it
 pub data Work : Type 0 where
   Exactly : (bytes : List ℕ) → Work
   UpgradeOf : (plan : Plan) → Work
   TextOf : (plan : Plan) → Work
+  FormOf : (plan : Plan) → Work
 
 -- what a command comes to: a text is written, or the run ends so, or as the audit of a design for a plan ends
 pub data Outcome : Type 0 where
@@ -79,6 +83,7 @@ abbrev pub IsRight : Work → List ℕ → Type 0
 IsRight (Exactly right) bytes = bytes ≡ right
 IsRight (UpgradeOf plan) bytes = (table_of bytes ≡ Some (document (upgrade_of plan))) × (judged bytes ≡ Described plan)
 IsRight (TextOf plan) bytes = IsRightText plan bytes
+IsRight (FormOf plan) bytes = IsFormText plan bytes
 
 -- what a command goes on to with what a description says
 abbrev pub with_judged : Judged → (Plan → Outcome) → Outcome
@@ -116,6 +121,10 @@ if_sound (Ok d) next = next d
 abbrev pub with_text : Plan → List ℕ → (Design → Outcome) → Outcome
 with_text p bytes next = if_sound (judged_text p bytes) next
 
+-- a form of the plan is to be written, unless the network has too many places
+abbrev pub formed : Plan → Outcome
+formed p = if nat_lt form_places (places p) then refuses Size else Does (FormOf p)
+
 -- what a job comes to, over what the files hold
 abbrev pub over : Job → Contents → Outcome
 over (Schedule cycles) held = with_plan held.description (λ p. Does (Exactly (schedule_text p cycles)))
@@ -131,6 +140,7 @@ over (Replay cycles) held = with_plan held.description (λ p. with_text p held.t
 over Audit held = with_plan held.description (λ p. with_text p held.text (λ d. Audits p d))
 over (Stress number cycles) held = Does (Exactly (stress_text number cycles))
 over Compile held = with_plan held.description (λ p. Does (TextOf p))
+over Aiger held = with_plan held.description formed
 
 -- what a command may write where it ends well: bytes that are right for its work; an audit writes its line for a design
 -- that is clean

@@ -9,7 +9,7 @@ use Rattle.surf_cli.specs.declared.commands.Job.TheVariants as code
 use Rattle.surf_cli.specs.declared.commands.Command as code_command
 use Rattle.surf_cli.specs.Files.{NamedFile}
 use Rattle.surf_cli.specs.Contents.{Contents}
-use Rattle.surf_cli.specs.Jobs.{Job, Schedule, Check, Routes, Simulate, Report, Upgrade, Replay, Audit, Stress, Compile, Command}
+use Rattle.surf_cli.specs.Jobs.{Job, Schedule, Check, Routes, Simulate, Report, Upgrade, Replay, Audit, Stress, Compile, Aiger, Command}
 
 -- a named file
 abbrev pub named : code_file.NamedFile → NamedFile
@@ -42,6 +42,7 @@ job (code.Replay cycles) = Replay cycles
 job code.Audit = Audit
 job (code.Stress number cycles) = Stress number cycles
 job code.Compile = Compile
+job code.Aiger = Aiger
 
 -- a command
 abbrev pub command : code_command.Command → Command

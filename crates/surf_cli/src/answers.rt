@@ -3,6 +3,7 @@
 ghost use Rattle.std.specs.Prelude.{◌≡◌, [], IfOk};
 
 use crate::accepted::put_accepted;
+use crate::forms::FormText;
 use crate::reports::{OneReport, Reports};
 use crate::routes::put_routes;
 use crate::summary::Summary;
@@ -28,6 +29,8 @@ pub(crate) enum Text {
     Summary(Summary),
     /// These bytes.
     Bytes(Vec<u8>),
+    /// A form of a design.
+    Form(FormText),
 }
 
 impl Text {
@@ -47,6 +50,7 @@ impl Text {
             Text::Report(report) => report.put(block, out),
             Text::Summary(summary) => summary.put(block, out),
             Text::Bytes(bytes) => block.put(out, bytes.as_slice()),
+            Text::Form(form) => form.put(block, out),
         }
     }
 }

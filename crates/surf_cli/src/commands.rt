@@ -7,6 +7,7 @@ ghost use Rattle.surf_cli.specs.Meaning.{Makes, over};
 ghost use Rattle.surf_cli.specs.Answers.{text_of, IsRefused};
 ghost use Rattle.surf_cli.specs.Spoken.{command, job, gathered};
 
+mod aiger;
 mod audit;
 mod check;
 mod compile;
@@ -66,6 +67,8 @@ pub(crate) enum Job<'a> {
     },
     /// A Verilog text that is the network.
     Compile,
+    /// The network as an and-inverter graph.
+    Aiger,
 }
 
 /// What the words ask for.
@@ -97,6 +100,7 @@ pub(crate) fn command_of(words: &[String]) -> Option<Command<'_>>
         "audit" => audit::words(args),
         "stress" => stress::words(args),
         "compile" => compile::words(args),
+        "aiger" => aiger::words(args),
         _ => None,
     }
 }
@@ -118,6 +122,7 @@ fn text_for(alloc: Global, asked: Job<'_>, contents: Contents) -> Result<Text, E
         Job::Audit => audit::make(alloc, contents),
         Job::Stress { number, cycles } => stress::make(alloc, contents, number, cycles),
         Job::Compile => compile::make(alloc, contents),
+        Job::Aiger => aiger::make(alloc, contents),
     }
 }
 

@@ -9,7 +9,7 @@ ghost use Rattle.vl_tree.specs.Spells.{Spells};
 ghost use Rattle.vl_tree.specs.Faults.{IsReadFault};
 ghost use Rattle.vl_tree.specs.declared.fault.TextFault.{TextFault};
 ghost use Rattle.surf_cli.specs.Compiled.{CompiledIsSimulated, CompileThenReplay, CompiledDomainsApart};
-ghost use Rattle.surf_cli.specs.Laws.{ReplayIsSimulate, CommandsAgree};
+ghost use Rattle.surf_cli.specs.Laws.{ReplayIsSimulate, CommandsAgree, AuditedIsolates};
 ghost use Rattle.surf_cli.specs.Simulate.{report_text};
 ghost use Rattle.surf_cli.specs.TextRead.{text_read};
 
@@ -49,4 +49,10 @@ pub fn compiled_is_simulated()
 /// inputs alone.
 pub fn compiled_domains_apart()
     ensures { CompiledDomainsApart }
+{}
+
+/// A text that an audit passes isolates every domain: where `audit` of a description and a text may end with status 0,
+/// the text spells a sound design with the plan's ports in which no domain's outputs depend on another domain's inputs.
+pub fn audited_isolates()
+    ensures { AuditedIsolates }
 {}

@@ -18,6 +18,7 @@ mod audit_lines;
 mod commands;
 mod contents;
 mod files;
+mod forms;
 mod judging;
 pub mod laws;
 mod reading;

@@ -24,6 +24,8 @@ pub(crate) enum Refusal {
     Trace(TraceFault),
     /// The text's first leak: the position of the port, the phase, and the other domain.
     Leak { port: u32, phase: u32, foreign: u32 },
+    /// The description's network has too many places for a form.
+    Size,
 }
 
 impl Refusal {
@@ -37,6 +39,7 @@ impl Refusal {
             Refusal::Text(_) => Status::Text,
             Refusal::Trace(_) => Status::Trace,
             Refusal::Leak { .. } => Status::Leak,
+            Refusal::Size => Status::Size,
         }
     }
 
@@ -55,6 +58,7 @@ impl Refusal {
                 phase,
                 foreign,
             } => print_leak(*port, *phase, *foreign, err),
+            Refusal::Size => say(err, b"surf: too many places\n"),
         }
     }
 }

@@ -32,6 +32,8 @@ pub enum Status {
     TooLong,
     /// The description has no domain of the name.
     Domain,
+    /// The description has too many places for a form.
+    Size,
 }
 
 impl Status {
@@ -51,6 +53,7 @@ impl Status {
             Status::Memory => 8,
             Status::TooLong => 9,
             Status::Domain => 10,
+            Status::Size => 11,
         }
     }
 }
