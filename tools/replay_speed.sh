@@ -1,7 +1,7 @@
 #!/usr/bin/env bash
 # Times `surf replay` of a Verilog text under a trace: reading and judging it, and how many cycles a second then run.
 # Usage: tools/replay_speed.sh DESCRIPTION TEXT TRACE CYCLES [SURF]
-# SURF is the program, `surf` of this checkout where it isn't named. Each time is that of the fastest of three runs.
+# SURF is the program, `surf` of this checkout where it isn't named. Times are processor time, the best of three runs.
 # Where Icarus Verilog or Verilator is installed, tools/compare_text.sh then runs the same cycles by it.
 set -eu
 top=$(dirname "$(dirname "$(readlink -f "$0")")")
@@ -10,7 +10,7 @@ if [ $# -lt 4 ]; then
   exit 2
 fi
 description=$1 text=$2 trace=$3 cycles=$4 surf=${5:-$top/surf}
-TIMEFORMAT=%R
+TIMEFORMAT=%U
 
 # The seconds of the fastest of three runs of so many cycles.
 fastest() {
