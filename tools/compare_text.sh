@@ -4,14 +4,17 @@
 # Usage: tools/compare_text.sh DESCRIPTION TEXT TRACE CYCLES [SURF]
 # SURF is the program, `surf` of this checkout where it isn't named. Files go to a folder that is removed at the end.
 # Other tools begin with memories of unknown bits, `surf` with 0: a text that shows a memory's first content may differ.
+# OPTIMIZE in the environment is the option by which Verilator's C++ is compiled, -O0 where it isn't named. The C++ is
+# cut into pieces: whole and with Verilator's own -Os, that of a text of 680,000 bytes takes many minutes.
 # The status is 1 where a report differs or Verilator refuses the text.
 set -eu
 top=$(dirname "$(dirname "$(readlink -f "$0")")")
 if [ $# -lt 4 ]; then
-  sed -n '2,7s/^# //p' "$0" >&2
+  sed -n '2,9s/^# //p' "$0" >&2
   exit 2
 fi
 description=$(readlink -f "$1") text=$(readlink -f "$2") trace=$(readlink -f "$3") cycles=$4 surf=${5:-$top/surf}
+optimize=${OPTIMIZE:--O0}
 folder=$(mktemp -d)
 trap 'rm -rf "$folder"' EXIT
 differ=0
@@ -144,8 +147,10 @@ else
   echo "Icarus Verilog is not installed: skipped"
 fi
 if command -v verilator >/dev/null; then
-  if verilator --binary --timing -Wno-fatal -Wno-lint --Mdir "$folder/verilated" --top-module bench "$folder/bench.v" "$text" >"$folder/said" 2>&1; then
-    run Verilator "$folder/verilator.out" "$folder/verilated/Vbench"
+  if verilator --binary --timing -Wno-fatal -Wno-lint --output-split 5000 --output-split-cfuncs 500 \
+    -MAKEFLAGS "OPT_FAST=$optimize OPT_GLOBAL=$optimize" --build-jobs "$(nproc)" \
+    --Mdir "$folder/verilated" --top-module bench "$folder/bench.v" "$text" >"$folder/said" 2>&1; then
+    run "Verilator, C++ by $optimize" "$folder/verilator.out" "$folder/verilated/Vbench"
     reports "$folder/verilator.out" >"$folder/verilator.report"
     compare Verilator "$folder/verilator.report"
   else
