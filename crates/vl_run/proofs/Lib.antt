@@ -23,3 +23,4 @@ pub mod WordPut
 pub mod FirstPut
 pub mod Needed
 pub mod Refreshed
+pub mod Packing

@@ -11,3 +11,4 @@ pub mod Fresh
 pub mod Running
 pub mod Put
 pub mod Shown
+pub mod Packed

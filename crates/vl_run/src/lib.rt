@@ -12,6 +12,7 @@
 mod cells;
 mod emit;
 mod machine;
+mod packed;
 mod parts;
 mod program;
 mod put;

@@ -10,16 +10,16 @@ ghost use Rattle.vl_rules.specs.Library.{IsLibrary};
 ghost use Rattle.vl_run.specs.Emit.{place_in};
 ghost use Rattle.vl_run.specs.Program.{linked};
 ghost use Rattle.vl_run.specs.State.{part_edged, shown_by};
-ghost use Rattle.vl_run.specs.Shown.{part_after, Shows, IsRefreshed, AllRefreshed};
+ghost use Rattle.vl_run.specs.Shown.{part_after, IsRefreshed, AllRefreshed};
+ghost use Rattle.vl_run.specs.Packed.{all_unpacked, Packs};
 ghost use Rattle.vl_run.specs.Put.{part_with, parts_with};
 ghost use Rattle.vl_run.specs.Fresh.{IsFresh, AllFresh, HasLeaf};
 
 use crate::cells::Cells;
 use crate::emit::Scope;
+use crate::packed::{Lists, Packed};
 use crate::program::Program;
-use crate::shown::shown_steps;
 use crate::state::{State, copy};
-use crate::step::Step;
 use std::alloc::{AllocError, Global};
 use std::marker::Model;
 use vl_rules::{Known, Library};
@@ -42,26 +42,26 @@ impl Model for Part {
 
 impl Part {
     /// Takes the steps in order.
-    fn take(&mut self, steps: &[Step])
-        ensures { self.new ≡ part_after steps.now self.old }
+    fn take(&mut self, list: &[Packed])
+        ensures { self.new ≡ part_after (all_unpacked list.now) self.old }
     {
-        self.state.take(steps);
+        self.state.take(list);
     }
 
-    /// The steps of its assigns that its output ports depend on.
-    fn shown(&self, alloc: Global) -> Result<Vec<Step>, AllocError>
-        ensures { IfOk result (λ v. Shows self.now.code v.items) }
+    /// What its program does, packed.
+    fn lists(&self, alloc: Global) -> Result<Lists, AllocError>
+        ensures { IfOk result (λ l. Packs self.now.code l) }
     {
-        let places = self.state.nets.len();
-        let steps = shown_steps(alloc, &self.program, places)?;
-        Ok(steps)
+        let lists = Lists::new(alloc, &self.program, self.state.nets.len())?;
+        Ok(lists)
     }
 
     /// One clock edge, where the top's nets have these numbers.
-    fn edge(&mut self, tops: &Cells)
+    fn edge(&mut self, lists: &Lists, tops: &Cells)
+        requires { Packs self.old.code lists.now }
         ensures { self.new ≡ part_edged tops.now self.old }
     {
-        self.state.edge(&self.program, tops);
+        self.state.edge(&self.program, lists, tops);
     }
 
     /// Makes this the number at a word of the memory in a row.
@@ -79,22 +79,22 @@ impl Part {
     }
 }
 
-/// An instance that runs, with the steps of its assigns that its output ports depend on.
+/// An instance that runs, with what its program does, packed.
 #[derive(Drop)]
 pub(crate) struct Instance {
     part: Part,
-    shows: Vec<Step>,
+    lists: Lists,
 }
 
 impl Model for Instance {
     ghost use Rattle.vl_run.specs.State.{Part};
-    ghost use Rattle.vl_run.specs.Shown.{Shows};
+    ghost use Rattle.vl_run.specs.Packed.{Packs};
 
     ghost Value = { Part };
 
     ghost view = { λ i. i.part };
 
-    ghost invariant = { λ i. Shows i.part.code i.shows.items };
+    ghost invariant = { λ i. Packs i.part.code i.lists };
 }
 
 impl Instance {
@@ -102,22 +102,22 @@ impl Instance {
     fn new(alloc: Global, part: Part) -> Result<Instance, AllocError>
         ensures { IfOk result (λ i. i ≡ part) }
     {
-        let shows = part.shown(alloc)?;
-        Ok(Instance { part, shows })
+        let lists = part.lists(alloc)?;
+        Ok(Instance { part, lists })
     }
 
     /// Computes what its output ports have.
     fn refresh(&mut self)
         ensures { IsRefreshed self.old self.new }
     {
-        self.part.take(self.shows.as_slice());
+        self.part.take(self.lists.shows.as_slice());
     }
 
     /// One clock edge, where the top's nets have these numbers.
     fn edge(&mut self, tops: &Cells)
         ensures { self.new ≡ part_edged tops.now self.old }
     {
-        self.part.edge(tops);
+        self.part.edge(&self.lists, tops);
     }
 
     /// Makes this the number at a word of the memory in a row.

@@ -9,12 +9,14 @@ ghost use Rattle.vl_run.specs.Start.{IsWithin, words_of, empty_memory, IsStart};
 ghost use Rattle.vl_run.specs.Program.{stored_in, linked};
 ghost use Rattle.vl_run.specs.Put.{kept_with};
 ghost use Rattle.vl_run.specs.Shown.{kept_after};
-ghost use Rattle.vl_run.specs.State.{settled_by, fed_by, readied_by, stored_by, moved_by, edged};
+ghost use Rattle.vl_run.specs.State.{fed_by, stored_by, edged};
+ghost use Rattle.vl_run.specs.Packed.{all_unpacked, Packs};
 
 use crate::cells::Cells;
 use crate::emit::next;
+use crate::packed::{Lists, Packed, pack, run};
 use crate::program::{Link, Program, Store, resets, scope_of};
-use crate::step::{Step, run};
+use crate::step::Step;
 use std::alloc::{AllocError, Global};
 use std::marker::Model;
 use vl_rules::{Known, Line, Module};
@@ -116,7 +118,8 @@ impl State {
         let size = room(resets.as_slice(), all)?;
         let memories = memories(alloc, &Module::Leaf(leaf.leaf))?;
         let mut nets = Cells::zeros(alloc, size)?;
-        run(resets.as_slice(), &mut nets, memories.as_slice());
+        let first = pack(alloc, resets.as_slice())?;
+        run(first.as_slice(), &mut nets, memories.as_slice());
         Ok(State { nets, memories })
     }
 
@@ -128,32 +131,10 @@ impl State {
     }
 
     /// Takes these steps, in order.
-    pub(crate) fn take(&mut self, steps: &[Step])
-        ensures { self.new ≡ kept_after steps.now self.old }
+    pub(crate) fn take(&mut self, list: &[Packed])
+        ensures { self.new ≡ kept_after (all_unpacked list.now) self.old }
     {
-        run(steps, &mut self.nets, self.memories.as_slice());
-    }
-
-    /// Gives each assigned net its value, in order.
-    fn settle(&mut self, program: &Program)
-        ensures { self.new ≡ settled_by program.now self.old }
-    {
-        run(
-            program.settle.as_slice(),
-            &mut self.nets,
-            self.memories.as_slice(),
-        );
-    }
-
-    /// Computes what registers and memories are to take.
-    fn ready(&mut self, program: &Program)
-        ensures { self.new ≡ readied_by program.now self.old }
-    {
-        run(
-            program.next.as_slice(),
-            &mut self.nets,
-            self.memories.as_slice(),
-        );
+        run(list, &mut self.nets, self.memories.as_slice());
     }
 
     /// Memories take it.
@@ -167,27 +148,16 @@ impl State {
         );
     }
 
-    /// Registers take it.
-    fn shift(&mut self, program: &Program)
-        ensures { self.new ≡ moved_by program.now self.old }
-    {
-        run(
-            program.moves.as_slice(),
-            &mut self.nets,
-            self.memories.as_slice(),
-        );
-    }
-
     /// One clock edge, where the top's nets have these numbers.
-    #[tactic(auto, unfolding(crate::specs::State::edged))]
-    pub(crate) fn edge(&mut self, program: &Program, tops: &Cells)
+    pub(crate) fn edge(&mut self, program: &Program, lists: &Lists, tops: &Cells)
+        requires { Packs program.now lists.now }
         ensures { self.new ≡ edged program.now tops.now self.old }
     {
         self.feed(program, tops);
-        self.settle(program);
-        self.ready(program);
+        self.take(lists.settle.as_slice());
+        self.take(lists.next.as_slice());
         self.store(program);
-        self.shift(program);
+        self.take(lists.moves.as_slice());
     }
 
     /// Makes this the number at a word of the memory in a row.

@@ -1,4 +1,4 @@
-use Rattle.std.proofs.Common.{◌≡◌, ◌∙◌, ap, ◌∷◌, [], ◌++◌}
+use Rattle.std.proofs.Common.{◌≡◌, ◌∙◌, ◌∷◌, [], ◌++◌}
 use Rattle.vl_rules.specs.Lines.{lines_of, line_of}
 use Rattle.vl_run.specs.Start.{empty_memory}
 use Rattle.vl_run.proofs.Room.{one-more-row}

@@ -1,13 +1,19 @@
 use Rattle.std.proofs.Common.{◌≡◌, List, sym, ◌∙◌, ap, subst}
-use Rattle.vl_run.specs.declared.step.Step.{Step}
-use Rattle.vl_run.specs.State.{Part}
+use Rattle.vl_run.specs.declared.packed.Packed.{Packed}
+use Rattle.vl_run.specs.declared.packed.Lists.{Lists}
+use Rattle.vl_run.specs.State.{Kept, Part}
+use Rattle.vl_run.specs.Packed.{all_unpacked, Packs}
 use Rattle.vl_run.specs.Shown.{part_after, IsRefreshed}
+use Rattle.vl_run.proofs.Packing.{kept-alike}
 use Rattle.vl_run.proofs.Refreshed.{refreshed}
 use Rattle.vl_run.proofs.parts.Instance.refresh.Goals as goal
 
 pub returns : goal.returns
 returns c =
     let x : Part = c.self.inside.part in
-    let ss : List Step = c.self.inside.shows.items in
-    let made : c.take.new.self ≡ part_after ss x = c.take.ensures ∙ ap (λ (z : List Step). part_after z x) c.as_slice.ensures.value in
-    subst (λ (z : Part). IsRefreshed z c.take.new.self) c.self.view_is (subst (λ (z : Part). IsRefreshed x z) (sym made) (refreshed x ss c.self.invariant))
+    let l : Lists = c.self.inside.lists in
+    let h : Packs x.code l = c.self.invariant in
+    let made : c.take.new.self ≡ part_after h.some x =
+    c.take.ensures ∙ ap (λ (ps : List Packed). part_after (all_unpacked ps) x) c.as_slice.ensures.value
+    ∙ ap (λ (k : Kept). record { code = x.code; kept = k }) (kept-alike (all_unpacked l.shows.items) h.some x.kept h.shows) in
+    subst (λ (z : Part). IsRefreshed z c.take.new.self) c.self.view_is (subst (λ (z : Part). IsRefreshed x z) (sym made) (refreshed x h.some h.enough))

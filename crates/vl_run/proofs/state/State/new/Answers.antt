@@ -1,13 +1,14 @@
-use Rattle.std.proofs.Common.{ℕ, ◌≡◌, ◌≤◌, ◌∙◌, ap, subst, replicate, length, map, arith}
+use Rattle.std.proofs.Common.{ℕ, List, ◌≡◌, ◌∙◌, ap, subst, replicate, arith}
 use Rattle.std.specs.List.{AllByRecursion}
 use Rattle.vl_tree.specs.Values.{Name, Leaf}
 use Rattle.vl_tree.specs.Read.{read_leaf}
-use Rattle.vl_model.specs.Lines.{leaf_lines}
 use Rattle.vl_run.specs.Emit.{place_in}
 use Rattle.vl_run.specs.Step.{ran, word_at}
 use Rattle.vl_run.specs.Program.{reset_steps}
 use Rattle.vl_run.specs.State.{Code}
-use Rattle.vl_run.specs.Start.{IsWithin, empty_memory}
+use Rattle.vl_run.specs.Start.{IsWithin}
+use Rattle.vl_run.specs.declared.packed.Packed.{Packed}
+use Rattle.vl_run.specs.Packed.{all_unpacked}
 use Rattle.vl_run.proofs.Room.{started}
 use Rattle.vl_run.proofs.state.State.new.Goals as goal
 
@@ -22,7 +23,7 @@ returns c =
     let e3 : c.as_slice-3.result.now ≡ p.moves = c.as_slice-3.ensures.value ∙ ap (λ (q : Code). q.moves) c.program.view_is in
     let e5 : c.as_slice-5.result.now ≡ reset_steps s l.items = cc (c.as_slice-5.ensures.value, c.in_ok-resets.ensures, c.as_slice-4.ensures, c.scope_of-scope.ensures.declared) in
     let e6 : c.as_slice-6.result.now ≡ reset_steps s l.items = cc (c.as_slice-6.ensures.value, c.in_ok-resets.ensures, c.as_slice-4.ensures, c.scope_of-scope.ensures.declared) in
-    let e7 : c.as_slice-7.result.now ≡ ms = cc (c.as_slice-7.ensures.value) in
+    let e8 : c.as_slice-8.result.now ≡ ms = cc (c.as_slice-8.ensures.value) in
     let z : c.in_ok-nets.nets ≡ replicate c.in_ok-size.size 0 = c.in_ok-nets.ensures in
     started s l p c.in_ok-settle.settle c.in_ok-both.both c.in_ok-all.all c.in_ok-size.size ms c.run.new.nets
     (omega (arith, c.in_ok-settle.ensures.least, c.scope_of-scope.ensures.lines)) c.in_ok-both.ensures.least c.in_ok-all.ensures.least c.in_ok-size.ensures.least
@@ -31,4 +32,5 @@ returns c =
     (subst (AllByRecursion (IsWithin c.in_ok-all.all)) e3 c.in_ok-all.ensures.steps)
     (subst (AllByRecursion (IsWithin c.in_ok-size.size)) e5 c.in_ok-size.ensures.steps)
     c.in_ok-memories.ensures
-    (c.run.ensures ∙ ap (λ x. ran (word_at x) c.as_slice-6.result.now c.in_ok-nets.nets) e7 ∙ ap (λ x. ran (word_at ms) x c.in_ok-nets.nets) e6 ∙ ap (ran (word_at ms) (reset_steps s l.items)) z)
+    (c.run.ensures ∙ ap (λ x. ran (word_at x) (all_unpacked c.as_slice-7.result.now) c.in_ok-nets.nets) e8 ∙ ap (λ (ps : List Packed). ran (word_at ms) (all_unpacked ps) c.in_ok-nets.nets) c.as_slice-7.ensures.value
+    ∙ c.in_ok-first.ensures (word_at ms) c.in_ok-nets.nets ∙ ap (λ x. ran (word_at ms) x c.in_ok-nets.nets) e6 ∙ ap (ran (word_at ms) (reset_steps s l.items)) z)
