@@ -1,5 +1,5 @@
 -- An instance at reset.
-use Rattle.std.proofs.Common.{◌≡◌, ◌≢◌, ℕ, zero, suc, ◌+◌, ◌<◌, ◌≤◌, ◌^◌, Bool, true, false, List, [], ◌∷◌, ◌++◌, length, map, replicate, refl, sym, ◌∙◌, ap, subst, bytes_eq, arith}
+use Rattle.std.proofs.Common.{◌≡◌, ℕ, zero, suc, ◌+◌, ◌<◌, ◌^◌, Bool, true, false, List, [], ◌∷◌, length, map, replicate, refl, sym, ◌∙◌, ap, subst, bytes_eq, arith}
 use Rattle.std.specs.Prelude.{Option, Some, None, slice_get, slice_index, slice_index_or, if◌then◌else◌}
 use Rattle.std.specs.List.{AllByRecursion}
 use Rattle.std.proofs.lemmas.List.{length-map, length-replicate}
@@ -7,26 +7,21 @@ use Rattle.std.proofs.lemmas.Option.{none-some}
 use Rattle.std.proofs.lemmas.Nat.{pow_pos}
 use Rattle.std.proofs.lemmas.Bool.{or_parts, false≢true}
 use Rattle.vl_tree.specs.declared.tree.Join.{Join}
-use Rattle.vl_tree.specs.declared.tree.Port.{Port}
 use Rattle.vl_tree.specs.declared.tree.TopItem.TheVariants.{Wire, Instance}
 use Rattle.vl_tree.specs.Values.{Name, Item, wire, reg, mem, assign, clocked, store, Leaf}
-use Rattle.vl_model.specs.Meaning.{Widths, Values}
-use Rattle.vl_model.specs.declared.kind.Kind.{Kind}
-use Rattle.vl_model.specs.declared.kind.Kind.TheVariants.{Input, Output, Inner, Register, Memory, Child}
-use Rattle.vl_model.specs.Lines.{Line, heading, port, item, joint, leaf_lines, Declared, declared, lookup, kind_passes, way_of, is_net, is_memory, word_count}
+use Rattle.vl_model.specs.Lines.{Line, heading, port, item, joint, leaf_lines, Declared, declared, lookup, way_of, is_net, is_memory, word_count}
 use Rattle.vl_model.specs.Rules.{is_kind}
-use Rattle.vl_model.specs.Leaf.{leaf_widths, AreSmall}
+use Rattle.vl_model.specs.Leaf.{leaf_widths}
 use Rattle.vl_model.specs.Settle.{reset_net, instance_reset}
 use Rattle.vl_model.specs.Once.{is_clocked, AreOnce}
 use Rattle.vl_model.proofs.Settling.{one-name}
 use Rattle.vl_model.proofs.Ordered.{kind-of}
 use Rattle.vl_model.proofs.Moving.{reset-small}
 use Rattle.vl_run.specs.declared.step.Step.{Step}
-use Rattle.vl_run.specs.Step.{ran, word_at}
-use Rattle.vl_run.specs.Program.{reset_steps, item_resets}
+use Rattle.vl_run.specs.Step.{word_at}
+use Rattle.vl_run.specs.Program.{reset_steps}
 use Rattle.vl_run.specs.State.{Part, code_of}
 use Rattle.vl_run.specs.Places.{ArePlaces}
-use Rattle.vl_run.specs.Rows.{Rows}
 use Rattle.vl_run.specs.Start.{words_of, empty_memory, IsStart}
 use Rattle.vl_run.specs.Stands.{StandsIn}
 use Rattle.vl_run.proofs.Acted.{placed, acted, placed-here, placed-other, ran-acted}

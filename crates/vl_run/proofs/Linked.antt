@@ -1,12 +1,12 @@
 -- Links between an instance and the top.
-use Rattle.std.proofs.Common.{◌≡◌, ◌≢◌, ℕ, ◌+◌, ◌<◌, ◌≤◌, Bool, true, false, ◌&&◌, List, [], ◌∷◌, ◌++◌, length, set, refl, sym, ◌∙◌, ap, subst, bytes_eq, arith, get_or-set_same, get_or-set_other, length-set}
-use Rattle.std.specs.Prelude.{Option, Some, None, find, if◌then◌else◌, slice_index, slice_set}
+use Rattle.std.proofs.Common.{◌≡◌, ◌≢◌, ℕ, ◌<◌, ◌≤◌, Bool, true, false, ◌&&◌, List, [], ◌∷◌, ◌++◌, length, refl, sym, ◌∙◌, ap, bytes_eq, arith, get_or-set_same, get_or-set_other, length-set}
+use Rattle.std.specs.Prelude.{Some, find, if◌then◌else◌, slice_index, slice_set}
 use Rattle.std.specs.List.{AllByRecursion}
 use Rattle.vl_tree.specs.declared.tree.Port.{Port}
 use Rattle.vl_tree.specs.declared.tree.Join.{Join}
 use Rattle.vl_tree.specs.Values.{Name, Leaf}
 use Rattle.vl_model.specs.Meaning.{Values}
-use Rattle.vl_model.specs.Lines.{Line, leaf_lines, lookup, kind_passes, way_of, is_net, is_driven, port_named}
+use Rattle.vl_model.specs.Lines.{Line, leaf_lines, kind_passes, way_of, is_net, port_named}
 use Rattle.vl_model.specs.Rules.{is_kind, is_output_port, join_drives}
 use Rattle.vl_model.specs.Settle.{is_input_port, net_of_join, port_value}
 use Rattle.vl_model.proofs.Settling.{one-name, itself}
@@ -14,7 +14,7 @@ use Rattle.vl_model.proofs.Ordered.{kind-of, driven-is-net}
 use Rattle.vl_model.proofs.Leaves.{leaf-port}
 use Rattle.vl_model.proofs.Tops.{GoodJoin}
 use Rattle.vl_run.specs.declared.program.Link.{Link}
-use Rattle.vl_run.specs.Program.{linked, feeds_of, join_feeds, outs_of, join_outs}
+use Rattle.vl_run.specs.Program.{linked, feeds_of, outs_of}
 use Rattle.vl_run.specs.Places.{ArePlaces}
 
 pub length-linked : (from : List ℕ) (ls : List Link) (to : List ℕ) → length (linked from ls to) ≡ length to

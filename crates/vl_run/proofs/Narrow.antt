@@ -1,13 +1,13 @@
 -- No width is above 64 bits.
-use Rattle.std.proofs.Common.{◌≡◌, ℕ, zero, suc, ◌+◌, ◌-◌, ◌^◌, ◌<◌, ◌≤◌, Bool, true, false, ◌&&◌, List, [], ◌∷◌, ◌++◌, Option, refl, sym, ◌∙◌, ap, subst, bytes_eq, arith}
+use Rattle.std.proofs.Common.{◌≡◌, ℕ, ◌+◌, ◌-◌, ◌^◌, ◌<◌, ◌≤◌, Bool, true, false, ◌&&◌, List, [], ◌∷◌, ◌++◌, Option, refl, ap, bytes_eq, arith}
 use Rattle.std.specs.Prelude.{Some, None, ◌==◌, nat_lt, nat_le, if◌then◌else◌}
-use Rattle.std.proofs.lemmas.Bool.{and_parts, eqb-true, ltb-true, not-false}
+use Rattle.std.proofs.lemmas.Bool.{and_parts, ltb-true, not-false}
 use Rattle.std.proofs.lemmas.Bool.Decides.{nat_tests}
 use Rattle.vl_tree.specs.declared.tree.Op.{Op}
 use Rattle.vl_tree.specs.declared.tree.Op.TheVariants.{Add, Sub, And, Or, Xor, Equal, Less}
 use Rattle.vl_tree.specs.declared.tree.TopItem.TheVariants.{Wire, Instance}
-use Rattle.vl_tree.specs.Values.{Name, Expr, Exprs, net, number, bit, part, word, not, two, choose, cat, no_parts, parts, Item, wire, reg, mem, assign, clocked, store, Leaf}
-use Rattle.vl_tree.specs.Plain.{plain_const, plain_expr, plain_exprs}
+use Rattle.vl_tree.specs.Values.{Name, Expr, net, number, bit, part, word, not, two, choose, cat, wire, reg, mem, assign, clocked, store, Leaf}
+use Rattle.vl_tree.specs.Plain.{plain_const, plain_expr}
 use Rattle.vl_model.specs.Meaning.{Widths, width_of, widths_of, agrees, all_agree, op_width}
 use Rattle.vl_model.specs.Lines.{Line, heading, port, item, joint, sites_behind, Declared, declared, found, lookup, is_net, is_memory, net_bits, word_bits, widths}
 use Rattle.vl_model.specs.Rules.{line_fits, wrong_width}

@@ -1,17 +1,17 @@
 -- What the rules say of the items of a sound leaf, each by itself.
-use Rattle.std.proofs.Common.{◌≡◌, ℕ, ◌+◌, ◌<◌, ◌^◌, Bool, true, false, ◌&&◌, List, [], ◌∷◌, ◌++◌, map, refl, sym, ◌∙◌, ap, subst}
-use Rattle.std.specs.Prelude.{◌==◌, Some}
+use Rattle.std.proofs.Common.{◌≡◌, ◌^◌, Bool, true, ◌&&◌, List, [], ◌∷◌, ◌++◌, map, sym, ◌∙◌, ap}
+use Rattle.std.specs.Prelude.{◌==◌}
 use Rattle.std.specs.List.{AllByRecursion, list_all}
-use Rattle.std.proofs.lemmas.Bool.{and_parts, and_from, eqb-true, not-false}
+use Rattle.std.proofs.lemmas.Bool.{and_parts, eqb-true, not-false}
 use Rattle.std.proofs.lemmas.List.Folds.{list_all-append}
 use Rattle.vl_tree.specs.Values.{Name, Expr, Item, wire, reg, mem, assign, clocked, store, Leaf}
 use Rattle.vl_tree.specs.Plain.{plain_const, plain_expr, plain_item}
 use Rattle.vl_tree.specs.Tokens.{is_name}
 use Rattle.vl_tree.specs.Grammar.{limit}
-use Rattle.vl_model.specs.Meaning.{Widths, Use, nets_of, uses_of, width_of, agrees}
+use Rattle.vl_model.specs.Meaning.{Use, nets_of, uses_of, width_of, agrees}
 use Rattle.vl_model.specs.declared.kind.Kind.{Kind}
 use Rattle.vl_model.specs.Lines.{Line, item, sites_behind, lookup, kind_passes, is_net, is_memory, is_driven, is_register, widths, word_count}
-use Rattle.vl_model.specs.Rules.{is_kind, knows, use_fits, line_known, name_unknown, line_fits, wrong_width, line_uses, has_size, wrong_size}
+use Rattle.vl_model.specs.Rules.{is_kind, knows, use_fits, line_known, name_unknown, line_fits, wrong_width, has_size, wrong_size}
 use Rattle.vl_model.proofs.Passed.{Passes}
 use Rattle.vl_model.proofs.Ordered.{kind-of, lookup-front, known-width, known-here, more}
 

@@ -1,27 +1,26 @@
 -- One instance: its nets settle, and an edge takes it from state to state.
-use Rattle.std.proofs.Common.{◌≡◌, ◌≢◌, ℕ, ◌+◌, ◌<◌, ◌≤◌, Bool, true, false, List, [], ◌∷◌, length, refl, sym, ◌∙◌, ap, subst, bytes_eq, arith}
-use Rattle.std.specs.Prelude.{Some, find, if◌then◌else◌, slice_index, not}
-use Rattle.std.specs.List.{AllByRecursion, list_all}
+use Rattle.std.proofs.Common.{◌≡◌, ℕ, ◌≤◌, Bool, true, false, List, [], length, refl, sym, ◌∙◌, ap, subst, bytes_eq, arith}
+use Rattle.std.specs.Prelude.{Some, find, if◌then◌else◌, slice_index}
+use Rattle.std.specs.List.{AllByRecursion}
 use Rattle.std.proofs.lemmas.Bool.{both_ways}
 use Rattle.vl_tree.specs.declared.tree.Join.{Join}
 use Rattle.vl_tree.specs.Values.{Name, Leaf, Design}
-use Rattle.vl_tree.specs.Plain.{plain_item}
 use Rattle.vl_model.specs.Meaning.{Widths, Values}
-use Rattle.vl_model.specs.Lines.{Line, leaf_lines, lookup, is_net, is_driven, is_memory, port_named, word_count, widths, leaf_named}
+use Rattle.vl_model.specs.Lines.{Line, leaf_lines, is_net, is_driven, port_named, leaf_named}
 use Rattle.vl_model.specs.Rules.{is_kind, IsSound}
 use Rattle.vl_model.specs.Leaf.{leaf_widths, AreSmall, IsRightIn}
 use Rattle.vl_model.specs.Settle.{settle, fed, stepped, is_input_port, net_of_join}
 use Rattle.vl_model.specs.Order.{is_assigned}
 use Rattle.vl_model.proofs.Passed.{SoundLeaf, leaf-sound, passes-behind}
 use Rattle.vl_model.proofs.Settling.{settle-outside, settle-only}
-use Rattle.vl_model.proofs.Stepping.{step-small, step-net}
+use Rattle.vl_model.proofs.Stepping.{step-small}
 use Rattle.vl_model.proofs.Leaves.{GoodLeaf, good-leaf, front}
 use Rattle.vl_model.proofs.Moving.{MovingLeaf, moving-leaf}
 use Rattle.vl_model.proofs.Tops.{GoodJoin}
 use Rattle.vl_model.proofs.One.{plain-leaf}
 use Rattle.vl_run.specs.Step.{word_at, ran}
-use Rattle.vl_run.specs.Program.{assign_steps, next_steps, move_steps, stores_of, feeds_of, linked, stored_in}
-use Rattle.vl_run.specs.State.{Code, Kept, Part, code_of, settled_by, fed_by, readied_by, stored_by, moved_by, edged, part_settled, part_edged}
+use Rattle.vl_run.specs.Program.{assign_steps, next_steps, move_steps, stores_of, linked, stored_in}
+use Rattle.vl_run.specs.State.{Code, Part, edged, part_settled, part_edged}
 use Rattle.vl_run.specs.Places.{ArePlaces}
 use Rattle.vl_run.specs.Rows.{Rows}
 use Rattle.vl_run.specs.Start.{HasRoom, IsWithin}
@@ -29,7 +28,7 @@ use Rattle.vl_run.specs.Stands.{StandsIn}
 use Rattle.vl_run.proofs.Acted.{acted, ran-acted, length-ran}
 use Rattle.vl_run.proofs.Narrow.{AreNarrow, are-narrow}
 use Rattle.vl_run.proofs.Ruled.{ItemRuled, items-ruled}
-use Rattle.vl_run.proofs.Settled.{Words, Agrees, settles}
+use Rattle.vl_run.proofs.Settled.{settles}
 use Rattle.vl_run.proofs.Readied.{ShowsAll, Readied, readies, next-keeps, moves}
 use Rattle.vl_run.proofs.Stored.{stores}
 use Rattle.vl_run.proofs.Linked.{length-linked, feeds, low}

@@ -1,11 +1,10 @@
 -- What memories take at an edge.
-use Rattle.std.proofs.Common.{◌≡◌, ◌≢◌, ℕ, ◌+◌, ◌<◌, ◌≤◌, ◌^◌, Bool, true, false, ◌&&◌, ◌||◌, List, [], ◌∷◌, ◌++◌, length, get_or, set, refl, sym, ◌∙◌, ap, subst, bytes_eq, arith, eq-eqb, eqb-true, get_or-set_same, get_or-set_other, length-set}
+use Rattle.std.proofs.Common.{◌≡◌, ◌≢◌, ℕ, ◌+◌, ◌<◌, Bool, true, false, ◌&&◌, List, [], ◌∷◌, length, refl, sym, ◌∙◌, ap, subst, bytes_eq, arith, eq-eqb, eqb-true, get_or-set_same, get_or-set_other, length-set}
 use Rattle.std.specs.Prelude.{◌==◌, if◌then◌else◌, slice_index, slice_set, slice_index_or}
 use Rattle.std.specs.List.{AllByRecursion}
-use Rattle.std.proofs.lemmas.Bool.{or_parts, and_parts}
-use Rattle.vl_tree.specs.Values.{Name, Expr, Item, wire, reg, mem, assign, clocked, store, Leaf}
+use Rattle.vl_tree.specs.Values.{Name, Expr, Item, wire, reg, mem, assign, clocked, store}
 use Rattle.vl_tree.specs.Grammar.{limit}
-use Rattle.vl_model.specs.Meaning.{Widths, Values, value_of, width_of}
+use Rattle.vl_model.specs.Meaning.{Widths, Values, value_of}
 use Rattle.vl_model.specs.Lines.{Line, lookup, is_memory, widths, word_count}
 use Rattle.vl_model.specs.Rules.{is_kind}
 use Rattle.vl_model.specs.Leaf.{AreSmall, stored}
@@ -19,7 +18,7 @@ use Rattle.vl_run.specs.Program.{stores_of, stored_in}
 use Rattle.vl_run.specs.Places.{ArePlaces}
 use Rattle.vl_run.specs.Rows.{Rows}
 use Rattle.vl_run.proofs.Narrow.{AreNarrow}
-use Rattle.vl_run.proofs.Ruled.{Ruled, ItemRuled}
+use Rattle.vl_run.proofs.Ruled.{ItemRuled}
 use Rattle.vl_run.proofs.Settled.{Words}
 use Rattle.vl_run.proofs.Readied.{Readied}
 

@@ -1,8 +1,7 @@
-use Rattle.std.proofs.Common.{◌≡◌, ℕ, ◌≤◌, List, length, replicate, sym, ◌∙◌, ap, subst, arith}
+use Rattle.std.proofs.Common.{◌≡◌, ℕ, length, sym, ◌∙◌, ap, subst, arith}
 use Rattle.std.specs.List.{AllByRecursion}
 use Rattle.std.proofs.lemmas.List.{length-replicate}
-use Rattle.vl_tree.specs.declared.tree.TopItem.{TopItem}
-use Rattle.vl_tree.specs.Values.{Name, Leaf, Design}
+use Rattle.vl_tree.specs.Values.{Name, Design}
 use Rattle.vl_tree.specs.Read.{read_leaves, read_design}
 use Rattle.vl_model.specs.Lines.{top_lines}
 use Rattle.vl_model.proofs.One.{known}

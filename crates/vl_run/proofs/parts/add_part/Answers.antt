@@ -1,6 +1,6 @@
 use Rattle.std.proofs.Common.{◌≡◌, ℕ, List, [], ◌∷◌, ◌++◌, length, take, sym, ◌∙◌, ap, subst}
 use Rattle.std.specs.Prelude.{Some}
-use Rattle.vl_tree.specs.declared.tree.TopItem.TheVariants.{Wire, Instance}
+use Rattle.vl_tree.specs.declared.tree.TopItem.TheVariants.{Instance}
 use Rattle.vl_tree.specs.Values.{Name, Leaf}
 use Rattle.vl_tree.specs.Read.{read_leaf, read_leaves}
 use Rattle.vl_model.specs.Lines.{leaf_named}

@@ -1,7 +1,7 @@
 use Rattle.std.proofs.Common.{◌≡◌, ◌++◌, drop}
 use Rattle.vl_tree.specs.Read.{read_leaf}
 use Rattle.vl_run.specs.Emit.{place_in}
-use Rattle.vl_run.specs.Program.{feeds_of, outs_of}
+use Rattle.vl_run.specs.Program.{feeds_of}
 use Rattle.vl_run.proofs.program.feeds.Given as goal
 
 abbrev pub invariant-loop-join : goal.invariant-loop-join

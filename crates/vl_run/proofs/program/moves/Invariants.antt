@@ -1,8 +1,7 @@
 use Rattle.std.proofs.Common.{◌≡◌, ◌++◌, drop}
 use Rattle.vl_tree.specs.Read.{read_items}
-use Rattle.vl_rules.specs.Scope.{widths_at}
 use Rattle.vl_run.specs.Emit.{place_in}
-use Rattle.vl_run.specs.Program.{assign_steps, next_steps, move_steps, stores_of, reset_steps}
+use Rattle.vl_run.specs.Program.{move_steps}
 use Rattle.vl_run.proofs.program.moves.Given as goal
 
 abbrev pub invariant-loop-item : goal.invariant-loop-item

@@ -1,4 +1,4 @@
-use Rattle.std.proofs.Common.{◌≡◌, ◌∙◌, ap, refl, length}
+use Rattle.std.proofs.Common.{◌∙◌, ap, refl, length}
 use Rattle.vl_tree.specs.Read.{read_leaf}
 use Rattle.vl_model.specs.Lines.{leaf_lines}
 use Rattle.vl_run.specs.Emit.{place_in}

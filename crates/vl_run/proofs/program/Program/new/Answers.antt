@@ -1,4 +1,4 @@
-use Rattle.std.proofs.Common.{◌≡◌, length, ◌∙◌, ap}
+use Rattle.std.proofs.Common.{length, ◌∙◌, ap}
 use Rattle.vl_tree.specs.Read.{read_items, read_leaf}
 use Rattle.vl_model.specs.Lines.{leaf_lines}
 use Rattle.vl_rules.specs.Scope.{widths_at}
