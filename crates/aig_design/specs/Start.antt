@@ -39,12 +39,15 @@ pub record ArePut {A E X : Type 0} (place : A → ℕ) (narrow : A → Type 0) (
 
 -- ---- registers
 
+-- the number of a register's place
 abbrev pub register_place : Register → ℕ
 register_place r = r.place
 
+-- a register has at most 64 bits
 abbrev pub is_narrow_register : Register → Type 0
 is_narrow_register r = r.high < 64
 
+-- the number fits the register's width
 abbrev pub fits_register : Register → ℕ → Type 0
 fits_register r x = x < 2 ^ (r.high + 1)
 
@@ -62,9 +65,11 @@ IsBounded b r = (n : Name) → b.known n ≡ true → b.place n ≡ r.place → 
 
 -- ---- memories
 
+-- the number of a memory's place
 abbrev pub memory_place : Memory → ℕ
 memory_place m = m.place
 
+-- a word of the memory has at most 64 bits
 abbrev pub is_narrow_memory : Memory → Type 0
 is_narrow_memory m = m.high < 64
 
@@ -91,9 +96,11 @@ AreMemoriesPut first next ms old new = ArePut memory_place is_narrow_memory Fits
 abbrev pub input_ports : List Port → List Port
 input_ports ps = filter (λ (p : Port). not p.output) ps
 
+-- a port has at most 64 bits
 abbrev pub is_narrow_port : Port → Type 0
 is_narrow_port p = p.high < 64
 
+-- the number fits the port's width
 abbrev pub fits_port : Port → ℕ → Type 0
 fits_port p x = x < 2 ^ (p.high + 1)
 

@@ -13,6 +13,7 @@ use Rattle.router_core.specs.Pulses.{pulse_at, is_pulse}
 abbrev pub link_number : Plan → ℕ → ℕ → ℕ
 link_number p n port = n * ports p + port
 
+-- the registers of the link that leaves tile n by the port
 abbrev pub row_of : Plan → List (List (Option LinkFlit)) → ℕ → ℕ → List (Option LinkFlit)
 row_of p rows n port = slice_index_or rows (link_number p n port) []
 

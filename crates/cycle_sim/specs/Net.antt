@@ -27,6 +27,7 @@ pub record Kept : Type 0 where
   pub routers : List Parts
   pub rows : List (List (Option LinkFlit))
 
+-- a network that keeps these
 abbrev pub kept : Plan → ℕ → List Parts → List (List (Option LinkFlit)) → Kept
 kept p t routers rows = record { plan = p; cycle = t; routers = routers; rows = rows }
 

@@ -9,12 +9,15 @@ abbrev pub bit_left : Bit → ℕ
 bit_left (Known b) = 2 ^ 16 + 1
 bit_left (From mask) = 2 ^ 16 - mask
 
+-- how far the bits of a row may rise together
 abbrev pub row_left : List Bit → ℕ
 row_left = sum_by bit_left
 
+-- how far those of an instance may
 abbrev pub rows_left : List (List Bit) → ℕ
 rows_left = sum_by row_left
 
+-- how far those of all instances in a phase may
 abbrev pub phase_left : List (List (List Bit)) → ℕ
 phase_left = sum_by rows_left
 

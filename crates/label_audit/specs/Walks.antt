@@ -13,9 +13,11 @@ use Rattle.label_audit.specs.Rows.{firsts}
 use Rattle.label_audit.specs.Audited.{port_domain}
 use Rattle.label_audit.specs.Whole.{phase_in, Stand, tops_in}
 
+-- the design that is audited
 abbrev pub design_in : Shape → Design
 design_in s = read_design s.design.now
 
+-- the number of phases, one a slot of the wave
 abbrev pub phase_count : Shape → ℕ
 phase_count s = length s.plan.now.slots
 

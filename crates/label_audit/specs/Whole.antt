@@ -25,6 +25,7 @@ use Rattle.label_audit.specs.Audited.{domain_of}
 
 -- ---- instances
 
+-- the leaf of the instance
 abbrev pub leaf_of : Part → Leaf
 leaf_of p = read_leaf p.leaf.leaf.now
 
@@ -70,6 +71,7 @@ abbrev pub first_at : Option Part → List (List Label)
 first_at None = []
 first_at (Some p) = first_rows (place_of p) (bits_in p.leaf.declared.now) (leaf_of p)
 
+-- those of all instances
 abbrev pub first_in : Shape → List (List (List Label))
 first_in s = firsts (λ i. first_at (slice_get s.parts.now i)) (length s.parts.now)
 
@@ -99,11 +101,12 @@ tops_in s xs = shown_in (place_in s.declared.now) xs s.parts.now 0
 
 -- ---- what is handed over
 
+-- the rows of registers and memories of an instance in the next phase
 abbrev pub next_at : (Name → ℕ) → List (List Label) → Option Part → List (List Label) → List (List Label)
 next_at t tops None kept = []
 next_at t tops (Some p) kept = next_rows (place_of p) t (leaf_of p) p.joins.now tops kept
 
--- the rows of registers and memories in the next phase
+-- those of all instances
 abbrev pub next_in : Shape → List (List (List Label)) → List (List (List Label))
 next_in s xs = firsts (λ i. next_at (place_in s.declared.now) (tops_in s xs) (slice_get s.parts.now i) (get_or xs i []))
     (length s.parts.now)

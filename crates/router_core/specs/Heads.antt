@@ -38,10 +38,11 @@ abbrev pub given : List (List Stage) → ℕ → ℕ → Option Winner → List 
 given v d o None = v
 given v d o (Some b) = with_stage v d b.place (Active o b.to)
 
--- the place of the input that wins, and the channel that it gets
+-- the place of the input that wins
 abbrev pub place_of : Option Winner → Option ℕ
 place_of b = option_map (λ (w : Winner). w.place) b
 
+-- and the channel that it gets
 abbrev pub to_of : Option Winner → Option ℕ
 to_of b = option_map (λ (w : Winner). w.to) b
 
