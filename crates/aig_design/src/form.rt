@@ -11,6 +11,7 @@ ghost use Rattle.aig_model.specs.Netlist.{Grows};
 ghost use Rattle.aig_cycle.specs.Wires.{AreWords};
 ghost use Rattle.aig_cycle.specs.Steps.{AreWired};
 ghost use Rattle.aig_out.specs.Forms.{form_of};
+ghost use Rattle.aig_trim.specs.Trimmed.{HasNeededGates};
 ghost use Rattle.aig_design.specs.Opened.{IsOpened, HasInputs, AreShown, AreNext};
 
 use crate::outputs::{latch_literals, output_literals};
@@ -18,6 +19,7 @@ use crate::start::{Variables, begin_parts, empty_words, pass_inputs, put_inputs}
 use aig_cycle::{Wired, edge_all, settle_all, show_all};
 use aig_gates::{Netlist, Word};
 use aig_out::Aig;
+use aig_trim::trimmed;
 use std::alloc::{AllocError, Global};
 use surf_base::Seq;
 use vl_rules::Sound;
@@ -119,7 +121,7 @@ fn take(
     Ok(latches)
 }
 
-/// The form of a sound design, whose instances have words of latches.
+/// A form of a sound design, whose instances have words of latches. It has each gate that was made on the way.
 fn finish(alloc: Global, design: &Design, opened: Opened) -> Result<Aig, AllocError>
     requires sound { IsSound (read_design design.now) }
     requires opened { IsOpened (read_design design.now) opened.inputs opened.next opened.wired.items opened.resets.items opened.ports.items opened.tops.items }
@@ -164,26 +166,30 @@ fn finish(alloc: Global, design: &Design, opened: Opened) -> Result<Aig, AllocEr
     })
 }
 
-/// The form of a design that is known to be sound.
+/// The form of a design that is known to be sound, without a gate that no output and no latch needs.
 ///
 /// # Errors
 ///
 /// Memory ran out. The answer is the same for 2^61 gates or variables.
 pub fn form_of_design(alloc: Global, design: &Design) -> Result<Aig, AllocError>
     requires { IsSound (read_design design.now) }
-    ensures { IfOk result (λ a. IsFormOf (read_design design.now) (form_of a)) }
+    ensures form { IfOk result (λ a. IsFormOf (read_design design.now) (form_of a)) }
+    ensures needed { IfOk result (λ a. HasNeededGates (form_of a)) }
 {
     let opened = open(alloc, design)?;
-    finish(alloc, design, opened)
+    let whole = finish(alloc, design, opened)?;
+    let aig = trimmed(alloc, &whole)?;
+    Ok(aig)
 }
 
-/// The form of a sound design.
+/// The form of a sound design, without a gate that no output and no latch needs.
 ///
 /// # Errors
 ///
 /// Memory ran out. The answer is the same for 2^61 gates or variables.
 pub fn aig_of(alloc: Global, sound: &Sound) -> Result<Aig, AllocError>
-    ensures { IfOk result (λ a. IsFormOf (read_design (design_of sound.now)) (form_of a)) }
+    ensures form { IfOk result (λ a. IsFormOf (read_design (design_of sound.now)) (form_of a)) }
+    ensures needed { IfOk result (λ a. HasNeededGates (form_of a)) }
 {
     form_of_design(alloc, sound.design())
 }

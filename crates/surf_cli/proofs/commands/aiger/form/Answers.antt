@@ -9,13 +9,13 @@ pub form_of_design-requires : goal.form_of_design-requires
 form_of_design-requires c = c.in_ok-design.ensures.right.sound
 
 pub new-requires : goal.new-requires
-new-requires c = c.in_ok-aig.ensures.form
+new-requires c = c.in_ok-aig.ensures.form.form
 
 pub returns : goal.returns
 returns c = record {
   design = read_design c.in_ok-design.design;
   form = form_of c.in_ok-aig.aig;
   right = c.in_ok-design.ensures.right;
-  of_design = c.in_ok-aig.ensures;
+  of_design = c.in_ok-aig.ensures.form;
   text = ap (λ (a : Aig). form_text.text_of (form_of a)) c.new.ensures;
 }
