@@ -1,14 +1,13 @@
 -- The input ports ask for what the definition's input ports ask for.
-use Rattle.std.proofs.Common.{◌≡◌, ◌≢◌, ℕ, zero, suc, ◌+◌, ◌<◌, ◌≤◌, Bool, true, false, List, [], ◌∷◌, length, get_or, refl, sym, ap, ◌∙◌, subst, arith, ⊎_elim, Option, Some, None, ℤ}
-use Rattle.std.specs.Prelude.{◌==◌, ◌&&◌, ◌||◌, nat_lt, option_and_then, pos, if◌then◌else◌}
+use Rattle.std.proofs.Common.{◌≡◌, ◌≢◌, ℕ, ◌+◌, ◌<◌, ◌≤◌, Bool, true, false, List, length, get_or, refl, sym, ap, ◌∙◌, arith, ⊎_elim, Option, Some, None, ℤ}
+use Rattle.std.specs.Prelude.{◌&&◌, ◌||◌, nat_lt, option_and_then, pos, if◌then◌else◌}
 use Rattle.std.proofs.lemmas.Bool.Decides.{nat_tests, eqb_tells}
 use Rattle.noc_model.specs.declared.Flit.{Flit}
 use Rattle.noc_model.specs.declared.Grant.{Grant}
 use Rattle.noc_model.specs.declared.Stage.{Stage}
 use Rattle.noc_model.specs.declared.Stage.TheVariants.{Idle, Routed, Active}
-use Rattle.noc_model.specs.Plan.{Plan, ports, link_channels, in_channels}
+use Rattle.noc_model.specs.Plan.{Plan, ports, in_channels}
 use Rattle.noc_model.specs.Inputs.{place, input_count, input_port, input_channel}
-use Rattle.noc_model.specs.Pick.{pick}
 use Rattle.noc_model.specs.Tile.{Tile, TileIn}
 use Rattle.noc_model.specs.Step.{is_ready, is_ready_at, grant_at, asked}
 use Rattle.noc_model.proofs.Least.{pick-same}
@@ -17,7 +16,7 @@ use Rattle.vc_partition.specs.Lanes.{lane}
 use Rattle.vc_partition.specs.Picks.{with_member}
 use Rattle.vc_partition.proofs.Cuts.{lane-written, lane-other, lanes-other}
 use Rattle.slot_switch.specs.Switch.{Switch, ask_at, turn_at, better_ask}
-use Rattle.slot_switch.specs.Asked.{IsGrantOf, HaveGrants}
+use Rattle.slot_switch.specs.Asked.{IsGrantOf}
 use Rattle.slot_switch.proofs.Defined.{first-none, one-more}
 use Rattle.wave_sched.specs.Wheels.{Stands}
 use Rattle.router_core.specs.Attachments.{told_at, outside}

@@ -1,14 +1,14 @@
 -- What a router shows after an attachment took a word and ejected a flit.
-use Rattle.std.proofs.Common.{◌≡◌, ◌≢◌, ℕ, zero, suc, ◌+◌, ◌<◌, ◌≤◌, Bool, true, false, List, [], ◌∷◌, ◌++◌, length, set, get_or-set_same, get_or-set_other, length-set, refl, sym, ap, ◌∙◌, subst, arith, append-nil, ⊎_elim, Option, Some, None}
-use Rattle.std.specs.Prelude.{◌==◌, option_to_list, IfSome, if◌then◌else◌}
+use Rattle.std.proofs.Common.{◌≡◌, ◌≢◌, ℕ, zero, suc, ◌<◌, Bool, true, false, List, [], ◌++◌, length, get_or-set_same, get_or-set_other, length-set, refl, sym, ap, ◌∙◌, arith, append-nil, ⊎_elim, Option, Some, None}
+use Rattle.std.specs.Prelude.{option_to_list, IfSome, if◌then◌else◌}
 use Rattle.std.proofs.lemmas.Bool.{ltb-true}
 use Rattle.std.proofs.lemmas.Bool.Decides.{eqb_tells}
 use Rattle.noc_model.specs.declared.Flit.{Flit}
 use Rattle.noc_model.specs.declared.Offer.{Offer}
-use Rattle.noc_model.specs.Plan.{Plan, ports, channels, link_channels, at_local}
-use Rattle.noc_model.specs.Inputs.{place, input_count}
+use Rattle.noc_model.specs.Plan.{Plan, ports, channels, link_channels}
+use Rattle.noc_model.specs.Inputs.{place}
 use Rattle.noc_model.specs.Tile.{Tile}
-use Rattle.noc_model.specs.Step.{entry, next_packet, next_current, is_dropped, next_ejected, with_channel, goes_to, entry_of, is_ready_packet}
+use Rattle.noc_model.specs.Step.{entry, next_packet, next_current, is_dropped, next_ejected, with_channel, is_ready_packet}
 use Rattle.noc_model.specs.declared.Packet.{Packet}
 use Rattle.noc_model.specs.declared.Packet.TheVariants.{Between, Passing, Dropping}
 use Rattle.noc_model.proofs.Inputs.{place-one, place-below, input-within}
@@ -17,9 +17,9 @@ use Rattle.flit_pool.specs.Lists.{Lists, list_at}
 use Rattle.router_core.specs.declared.attachments.Attachment.{Attachment}
 use Rattle.router_core.specs.Attachments.{start_attachment, attachment_at}
 use Rattle.router_core.specs.Attach.{attachment_after, entered, attached_parts, attached}
-use Rattle.router_core.specs.Buffers.{lists_at, flits_at, with_flits}
+use Rattle.router_core.specs.Buffers.{lists_at, flits_at}
 use Rattle.router_core.specs.Parts.{Parts}
-use Rattle.router_core.specs.Sizes.{HasAttachments, HasBuffers, IsMade}
+use Rattle.router_core.specs.Sizes.{HasBuffers, IsMade}
 use Rattle.router_core.specs.Shown.{Shows}
 use Rattle.router_core.proofs.Frames.{flits-written, flits-other, lists-other, has-buffers}
 

@@ -1,15 +1,14 @@
 -- What a router shows at the beginning of a cycle.
-use Rattle.std.proofs.Common.{◌≡◌, ◌≢◌, ℕ, ◌+◌, ◌<◌, ◌≤◌, Bool, true, false, List, length, get_or, set, refl, sym, ap, ◌∙◌, subst, arith, ⊎_elim, Option, None}
+use Rattle.std.proofs.Common.{◌≡◌, ◌≢◌, ℕ, ◌+◌, ◌<◌, ◌≤◌, Bool, true, false, List, length, get_or, set, refl, ap, ◌∙◌, arith, ⊎_elim, Option, None}
 use Rattle.std.specs.Prelude.{nat_lt}
 use Rattle.std.proofs.lemmas.Bool.Decides.{nat_tests, eqb_tells}
 use Rattle.std.proofs.lemmas.List.{get_or_past}
-use Rattle.noc_model.specs.declared.Grant.{Grant}
 use Rattle.noc_model.specs.Plan.{Plan, ports}
 use Rattle.noc_model.specs.Tile.{Tile}
 use Rattle.vc_partition.specs.Lanes.{lane}
 use Rattle.vc_partition.proofs.Cuts.{lane-written, lane-other, lanes-other}
 use Rattle.slot_switch.specs.Switch.{Switch, ask_at, with_ask}
-use Rattle.router_core.specs.Pulses.{pulse_at, is_pulse}
+use Rattle.router_core.specs.Pulses.{is_pulse}
 use Rattle.router_core.specs.Parts.{Parts}
 use Rattle.router_core.specs.Ready.{ClearBelow, silent}
 use Rattle.router_core.specs.Sizes.{HasSwitch, HasPorts, IsMade}

@@ -25,17 +25,17 @@ use Rattle.router_core.specs.Idle.{is_busy, IsIdleFor}
 
 -- ---- a choice of nothing
 
-clash : true ≡ false → ⊥
+pub clash : true ≡ false → ⊥
 clash e = cc e
 
-pick-none : (n : ℕ) (set : ℕ → Bool) (pointer : ℕ) → ((k : ℕ) → k < n → set k ≡ false) → pick n set pointer ≡ None
+pub pick-none : (n : ℕ) (set : ℕ → Bool) (pointer : ℕ) → ((k : ℕ) → k < n → set k ≡ false) → pick n set pointer ≡ None
 pick-none n set pointer none = go (pick n set pointer) refl
   where
     go : (o : Option ℕ) → pick n set pointer ≡ o → o ≡ None
     go None e = refl
     go (Some k) e = let found = pick-member n set pointer k e in absurd (clash (sym found.1 ∙ none k found.0))
 
-and-false : (a b c : Bool) → b ≡ false → (a && (b && c)) ≡ false
+pub and-false : (a b c : Bool) → b ≡ false → (a && (b && c)) ≡ false
 and-false true true c e = absurd (clash e)
 and-false true false c e = refl
 and-false false b c e = refl

@@ -1,10 +1,10 @@
 -- A router in a lawful state is ready for its next cycle, and in a lawful state after it.
-use Rattle.std.proofs.Common.{◌≡◌, ℕ, suc, ◌+◌, ◌<◌, true, List, [], ◌∷◌, length, refl, sym, ap, ◌∙◌, subst, arith, Option, Some, None}
+use Rattle.std.proofs.Common.{◌≡◌, ℕ, ◌+◌, ◌<◌, List, [], ◌∷◌, length, refl, sym, ap, ◌∙◌, subst, arith, None}
 use Rattle.std.proofs.lemmas.Int.{ints}
 use Rattle.std.specs.Prelude.{pos, ◌+ℤ◌, All}
 use Rattle.std.proofs.lemmas.List.Elements.{All-get_or}
 use Rattle.noc_model.specs.declared.Flit.{Flit}
-use Rattle.noc_model.specs.Plan.{Plan, ports, link_channels, tiles}
+use Rattle.noc_model.specs.Plan.{Plan, ports}
 use Rattle.noc_model.specs.Sound.{IsSound}
 use Rattle.noc_model.specs.Tile.{Tile, start_tile}
 use Rattle.noc_model.specs.Step.{front, tile_step}

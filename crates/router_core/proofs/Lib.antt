@@ -18,3 +18,5 @@ pub mod Advanced
 pub mod Ticked
 pub mod Lawful
 pub mod Idle
+pub mod Still
+pub mod Within

@@ -1,19 +1,17 @@
 -- A domain's heads are placed and its flits sent, as the definition does in one cycle.
-use Rattle.std.proofs.Common.{◌≡◌, ◌≢◌, ℕ, zero, suc, ◌<◌, ◌≤◌, Bool, true, false, List, [], length, get_or, refl, sym, ap, ◌∙◌, subst, arith, ⊎_elim, Option, Some, None, ℤ}
-use Rattle.std.specs.Prelude.{◌==◌, ◌||◌, nat_lt, pos, slice_get, if◌then◌else◌}
+use Rattle.std.proofs.Common.{◌≡◌, ℕ, zero, suc, ◌<◌, ◌≤◌, Bool, true, false, List, [], length, refl, sym, ap, ◌∙◌, subst, arith, Option, Some, None, ℤ}
+use Rattle.std.specs.Prelude.{◌||◌, nat_lt, pos, if◌then◌else◌}
 use Rattle.std.proofs.lemmas.Bool.Decides.{nat_tests}
 use Rattle.std.proofs.lemmas.List.{get_or_past}
-use Rattle.noc_model.specs.declared.Flit.{Flit}
-use Rattle.noc_model.specs.declared.LinkFlit.{LinkFlit}
 use Rattle.noc_model.specs.declared.Grant.{Grant}
 use Rattle.noc_model.specs.declared.Stage.{Stage}
 use Rattle.noc_model.specs.declared.Stage.TheVariants.{Idle, Routed, Active}
-use Rattle.noc_model.specs.Plan.{Plan, ports, link_channels, in_channels, out_channels}
-use Rattle.noc_model.specs.Inputs.{place, input_count, input_port, input_channel}
+use Rattle.noc_model.specs.Plan.{Plan, ports, link_channels, out_channels}
+use Rattle.noc_model.specs.Inputs.{input_count, input_port, input_channel}
 use Rattle.noc_model.specs.Tile.{Tile, TileIn}
 use Rattle.noc_model.specs.Step.{front, is_place, taken_channel, winner, takes, asked, grant, chosen, sent}
 use Rattle.noc_model.specs.Holder.{IsHolder}
-use Rattle.noc_model.specs.SoundState.{HasOutput, IsOutput}
+use Rattle.noc_model.specs.SoundState.{HasOutput}
 use Rattle.noc_model.proofs.Inputs.{input-within, port-below, channel-below}
 use Rattle.noc_model.proofs.Switch.{grant-ready, chosen-inside}
 use Rattle.noc_model.proofs.Switched.{output-below}
@@ -21,19 +19,18 @@ use Rattle.noc_model.proofs.Holders.{granted-chosen}
 use Rattle.vc_partition.specs.Lanes.{lane}
 use Rattle.route_stage.specs.Routed.{stage_at, GoesToTile}
 use Rattle.slot_switch.specs.Switch.{Switch, ask_at}
-use Rattle.slot_switch.specs.Asked.{AsksAs}
 use Rattle.vc_alloc.specs.Allocator.{Allocator, best_at}
 use Rattle.vc_alloc.specs.Shown.{GoesBelow}
 use Rattle.wave_sched.specs.Wheels.{Stands}
 use Rattle.router_core.specs.Attachments.{told_at, outside}
 use Rattle.router_core.specs.Asks.{HaveOutputs}
-use Rattle.router_core.specs.Buffers.{lists_at, flits_at}
+use Rattle.router_core.specs.Buffers.{lists_at}
 use Rattle.router_core.specs.Heads.{FrontsGo, front_of, placed}
 use Rattle.router_core.specs.Parts.{Parts}
 use Rattle.router_core.specs.Sizes.{IsMade}
 use Rattle.router_core.specs.Shown.{Shows}
 use Rattle.router_core.specs.Ready.{silent, IsReady}
-use Rattle.router_core.specs.Crossing.{through, under, until, crossed_below, IsSending, CanSend, switched}
+use Rattle.router_core.specs.Crossing.{under, until, crossed_below, IsSending, CanSend, switched}
 use Rattle.router_core.proofs.Takes.{stage-there, flits-there}
 use Rattle.router_core.proofs.Through.{through-same}
 

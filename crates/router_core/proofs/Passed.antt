@@ -1,6 +1,6 @@
 -- What a router shows after a flit went through its switch.
-use Rattle.std.proofs.Common.{◌≡◌, ◌≢◌, ℕ, zero, suc, ◌+◌, ◌-◌, ◌*◌, ◌<◌, Bool, true, false, List, [], length, get_or, drop, refl, sym, ap, ◌∙◌, arith, ⊎_elim, Option, Some, None}
-use Rattle.std.specs.Prelude.{◌==◌, ◌&&◌, not, is_some, slice_get, if◌then◌else◌}
+use Rattle.std.proofs.Common.{◌≡◌, ◌≢◌, ℕ, zero, suc, ◌+◌, ◌-◌, ◌*◌, ◌<◌, Bool, true, false, List, length, get_or, drop, refl, sym, ap, ◌∙◌, arith, ⊎_elim, Some, None}
+use Rattle.std.specs.Prelude.{◌==◌, ◌&&◌, not, is_some, if◌then◌else◌}
 use Rattle.std.proofs.lemmas.Bool.Decides.{eqb_tells}
 use Rattle.noc_model.specs.declared.Flit.{Flit}
 use Rattle.noc_model.specs.declared.Grant.{Grant}
@@ -16,7 +16,7 @@ use Rattle.vc_partition.specs.Lanes.{lane}
 use Rattle.vc_partition.proofs.Cuts.{lane-written, lane-other, lanes-other}
 use Rattle.route_stage.specs.Routed.{stage_at, HasInputs}
 use Rattle.credit_links.specs.Counts.{count_at, with_count}
-use Rattle.vc_alloc.specs.Allocator.{link_channels_at, spot, held_at}
+use Rattle.vc_alloc.specs.Allocator.{spot, held_at}
 use Rattle.router_core.specs.Buffers.{lists_at, flits_at, with_flits}
 use Rattle.router_core.specs.Pulses.{pulse_at, is_pulse}
 use Rattle.router_core.specs.Parts.{Parts}

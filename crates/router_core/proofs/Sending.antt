@@ -1,34 +1,30 @@
 -- One output more sends what the definition sends there.
-use Rattle.std.proofs.Common.{◌≡◌, ◌≢◌, ℕ, zero, suc, ◌+◌, ◌-◌, ◌<◌, ◌≤◌, Bool, true, false, List, [], ◌∷◌, length, drop, set, get_or-set_same, get_or-set_other, length-set, refl, sym, ap, ◌∙◌, subst, arith, ⊎_elim, Option, Some, None, ℤ}
-use Rattle.std.specs.Prelude.{◌==◌, ◌&&◌, not, nat_lt, option_and_then, option_map, IfSome, pos, if◌then◌else◌}
+use Rattle.std.proofs.Common.{◌≡◌, ◌≢◌, ℕ, zero, suc, ◌+◌, ◌-◌, ◌<◌, Bool, true, false, List, [], length, drop, get_or-set_same, get_or-set_other, length-set, refl, sym, ap, ◌∙◌, subst, arith, ⊎_elim, Option, Some, None, ℤ}
+use Rattle.std.specs.Prelude.{◌&&◌, not, nat_lt, option_and_then, option_map, IfSome, pos, if◌then◌else◌}
 use Rattle.std.proofs.lemmas.Bool.Decides.{nat_tests, eqb_tells}
-use Rattle.noc_model.specs.declared.Flit.{Flit}
 use Rattle.noc_model.specs.declared.LinkFlit.{LinkFlit}
 use Rattle.noc_model.specs.declared.Grant.{Grant}
-use Rattle.noc_model.specs.declared.Stage.{Stage}
 use Rattle.noc_model.specs.declared.Stage.TheVariants.{Active}
-use Rattle.noc_model.specs.Plan.{Plan, ports, link_channels, in_channels, out_channels, at_local}
+use Rattle.noc_model.specs.Plan.{Plan, ports, link_channels, out_channels, at_local}
 use Rattle.noc_model.specs.Inputs.{place}
 use Rattle.noc_model.specs.Pick.{pick}
 use Rattle.noc_model.specs.Tile.{Tile, TileIn}
-use Rattle.noc_model.specs.Step.{front, is_tail, is_channel, is_on, is_tail_on, one_if, asks_for, with_channel, grant, chosen, sent, takes}
+use Rattle.noc_model.specs.Step.{front, is_channel, is_on, is_tail_on, one_if, asks_for, with_channel, grant, chosen, sent}
 use Rattle.noc_model.specs.SoundState.{HasOutput}
 use Rattle.noc_model.proofs.Inputs.{input-within}
-use Rattle.noc_model.proofs.Switch.{IsReadyFor, grant-ready, chosen-inside, then-is}
+use Rattle.noc_model.proofs.Switch.{IsReadyFor, grant-ready, chosen-inside}
 use Rattle.noc_model.proofs.Switched.{output-below, chosen-granted}
 use Rattle.noc_model.proofs.Holders.{granted-chosen, granted-sent}
-use Rattle.vc_partition.specs.Lanes.{lane}
 use Rattle.credit_links.specs.Counts.{count_at}
 use Rattle.vc_alloc.specs.Allocator.{Allocator, held_at}
 use Rattle.slot_switch.specs.declared.Granted.{Granted}
-use Rattle.slot_switch.specs.Switch.{Switch, ask_at, switch_at, chosen_in, granted_in, granted_to, moved}
+use Rattle.slot_switch.specs.Switch.{Switch, ask_at, switch_at, chosen_in, granted_in, granted_to}
 use Rattle.slot_switch.proofs.Defined.{chosen-is, granted-is, grant-granted}
-use Rattle.router_core.specs.Buffers.{flits_at}
 use Rattle.router_core.specs.Heads.{front_of}
 use Rattle.router_core.specs.Parts.{Parts}
 use Rattle.router_core.specs.Sizes.{HasPorts, IsMade}
 use Rattle.router_core.specs.Shown.{Shows}
-use Rattle.router_core.specs.Sends.{ends, freed, pulsed, passed_parts, passed, turned}
+use Rattle.router_core.specs.Sends.{ends, freed, pulsed}
 use Rattle.router_core.specs.Crossing.{CanPass, sent_parts, sent_by, through, under, until, crossed_below, IsSending, CanSend, laid, laid_at, laid_on, SendsBelow}
 use Rattle.router_core.proofs.Passed.{passed-made, passed-own, passed-others}
 use Rattle.router_core.specs.Pulses.{ArePulses}
@@ -386,22 +382,3 @@ sends-none p d r xs made = record {
         through-same r p d v (λ k. None) (λ port. under 0 (grant p d r.tile (pos t) s i port)) (λ k. None) (until 0 (sent p d r.tile (pos t) s i)) (λ k. None) (until 0 (chosen p d r.tile (pos t) s i))
         (λ k k_in. nothing-under (grant p d r.tile (pos t) s i k)) (λ k k_in. nothing k (sent p d r.tile (pos t) s i)) (λ k k_in. nothing k (chosen p d r.tile (pos t) s i))
         (still r p d v sending.quiet sending.shows)
-
--- ---- nothing to send
-
-silent-grant : (x : Switch) (d o : ℕ) → ((port : ℕ) → ask_at x d port ≡ None) → granted_in x d o ≡ None
-silent-grant x d o none = go (chosen_in x d o)
-  where
-    go : (c : Option ℕ) → option_and_then (granted_to x d) c ≡ None
-    go None = refl
-    go (Some port) = ap (option_map (λ g. let w : Granted = record { port = port; grant = g } in w)) (none port)
-
--- where no input port asks, the outputs have sent as they stand
-pub sends-nothing : (o : ℕ) (p : Plan) (d : ℕ) (r : Parts) (xs : List (Option LinkFlit)) → d < length p.domains → length xs ≡ ports p → IsMade r p → CanSend p d r
-    → ((port : ℕ) → ask_at r.switch d port ≡ None) → o ≤ ports p → SendsBelow o p d r r xs xs
-sends-nothing zero p d r xs there many made can none few = sends-none p d r xs made
-sends-nothing (suc o) p d r xs there many made can none few =
-    let one : o + 1 ≡ suc o = omega arith in
-    let before = sends-nothing o p d r xs there many made can none (omega (arith, few)) in
-    subst (λ k. SendsBelow k p d r r xs xs) one
-    (more-none o p d r r xs xs before there (omega (arith, few)) many made can (silent-grant r.switch d o none))

@@ -1,7 +1,7 @@
 -- Heads are placed, flits sent, and an attachment takes its word and its flit: that is the definition's step of a tile to
 -- which nothing arrives and no credit comes back.
-use Rattle.std.proofs.Common.{◌≡◌, ◌≢◌, ℕ, zero, suc, ◌+◌, ◌-◌, ◌<◌, ◌≤◌, Bool, true, false, List, [], ◌∷◌, length, drop, refl, sym, ap, ◌∙◌, subst, arith, Option, Some, None, ℤ}
-use Rattle.std.specs.Prelude.{◌==◌, ◌&&◌, ◌||◌, not, nat_lt, if◌then◌else◌}
+use Rattle.std.proofs.Common.{◌≡◌, ℕ, ◌+◌, ◌-◌, ◌≤◌, Bool, true, false, List, [], ◌∷◌, length, drop, refl, sym, ap, ◌∙◌, arith, Option, Some, None, ℤ}
+use Rattle.std.specs.Prelude.{◌==◌, ◌&&◌, ◌||◌, not, if◌then◌else◌}
 use Rattle.std.proofs.lemmas.Bool.{eqb-true}
 use Rattle.std.proofs.lemmas.Bool.Decides.{nat_tests}
 use Rattle.noc_model.specs.declared.Flit.{Flit}
@@ -11,8 +11,7 @@ use Rattle.noc_model.specs.declared.Packet.{Packet}
 use Rattle.noc_model.specs.declared.Packet.TheVariants.{Between, Passing, Dropping}
 use Rattle.noc_model.specs.declared.Stage.{Stage}
 use Rattle.noc_model.specs.declared.Stage.TheVariants.{Idle, Routed, Active}
-use Rattle.noc_model.specs.Plan.{Plan, ports, link_channels}
-use Rattle.noc_model.specs.Inputs.{place}
+use Rattle.noc_model.specs.Plan.{Plan}
 use Rattle.noc_model.specs.Tile.{Tile, TileIn}
 use Rattle.noc_model.specs.Step.{tile_step, taken_channel, is_place, grant, is_channel, leaves, front, sent, is_on, is_tail_on, is_tail, one_if, next_stage, next_ejected, with_channel, word_in, is_open, is_ready_packet}
 use Rattle.noc_model.specs.Holder.{IsHolder}

@@ -1,12 +1,12 @@
 -- What a router shows at one place, and which outputs take a flit.
-use Rattle.std.proofs.Common.{◌≡◌, ◌≢◌, ℕ, zero, suc, ◌<◌, ◌≤◌, Bool, true, false, List, [], ◌∷◌, length, refl, sym, ap, ◌∙◌, arith, inl, inr, ◌⊎◌, Option, Some, None, ℤ}
+use Rattle.std.proofs.Common.{◌≡◌, ◌≢◌, ℕ, zero, suc, ◌<◌, ◌≤◌, Bool, true, false, List, [], ◌∷◌, length, refl, sym, ap, ◌∙◌, arith, inl, inr, Option, Some, None, ℤ}
 use Rattle.std.specs.Prelude.{◌==◌, ◌&&◌, ◌||◌, nat_lt, is_none, is_some, not}
 use Rattle.noc_model.specs.declared.Flit.{Flit}
 use Rattle.noc_model.specs.declared.Stage.{Stage}
 use Rattle.noc_model.specs.declared.Stage.TheVariants.{Idle, Routed, Active}
-use Rattle.noc_model.specs.Plan.{Plan, ports, link_channels, out_channels, at_local}
+use Rattle.noc_model.specs.Plan.{Plan, link_channels, out_channels, at_local}
 use Rattle.noc_model.specs.Place.{neighbour, owner}
-use Rattle.noc_model.specs.Inputs.{place, input_count, input_port, input_channel}
+use Rattle.noc_model.specs.Inputs.{input_count, input_port, input_channel}
 use Rattle.noc_model.specs.Tile.{Tile, TileIn}
 use Rattle.noc_model.specs.Step.{takes, is_ready_at}
 use Rattle.noc_model.specs.SoundState.{IsOutput}

@@ -2,7 +2,6 @@
 use Rattle.std.proofs.Common.{◌≡◌, ◌≢◌, ℕ, ◌+◌, ◌<◌, Bool, List, length, set, get_or, sym, ap, ◌∙◌, arith, ⊎_elim, Some}
 use Rattle.std.specs.Prelude.{◌==◌, if◌then◌else◌}
 use Rattle.std.proofs.lemmas.Bool.Decides.{eqb_tells}
-use Rattle.noc_model.specs.declared.Grant.{Grant}
 use Rattle.noc_model.specs.Plan.{Plan, ports}
 use Rattle.noc_model.specs.Tile.{Tile}
 use Rattle.vc_partition.specs.Lanes.{lane}

@@ -1,7 +1,6 @@
 -- Which channels may send, and what the input ports of a tile ask for.
-use Rattle.std.specs.Prelude.{◌≡◌, ◌≢◌, ℕ, ◌<◌, ◌&&◌, nat_lt, List, Option, Some, None, option_and_then, if◌then◌else◌, ℤ, pos}
+use Rattle.std.specs.Prelude.{◌≡◌, ◌≢◌, ℕ, ◌<◌, ◌≤◌, ◌&&◌, nat_lt, Option, Some, None, option_and_then, if◌then◌else◌, ℤ, pos}
 use Rattle.noc_model.specs.declared.Grant.{Grant}
-use Rattle.noc_model.specs.declared.Stage.{Stage}
 use Rattle.noc_model.specs.Plan.{Plan, ports, in_channels}
 use Rattle.noc_model.specs.Inputs.{place, input_port, input_channel}
 use Rattle.noc_model.specs.Pick.{pick}
@@ -12,6 +11,7 @@ use Rattle.route_stage.specs.Routed.{stage_at}
 use Rattle.vc_partition.specs.Lanes.{lane}
 use Rattle.slot_switch.specs.Switch.{Switch, ask_at, turn_at, better_ask, with_ask}
 use Rattle.wave_sched.specs.Wheels.{Stands}
+use Rattle.router_core.specs.declared.asks.Span.{Span}
 use Rattle.router_core.specs.Attachments.{told_at, outside}
 use Rattle.router_core.specs.Parts.{Parts}
 use Rattle.router_core.specs.Sizes.{HasSwitch}
@@ -47,3 +47,8 @@ pub record AsksBelow (k : ℕ) (p : Plan) (d : ℕ) (r : Parts) (x : Switch) : T
   pub others : (e : ℕ) → e ≢ d → lane x.asks e ≡ lane r.switch.asks e
   pub asks : (s : Tile) (t port : ℕ) → Shows r p d s → Stands r.wheel p r.tile t → port < ports p
       → ask_at x d port ≡ asked_below k p d r.tile (pos t) s (outside (told_at r.told d)) port
+
+-- the input ports of domain d that are below n ask for outputs of the span alone
+abbrev pub AsksWithin : ℕ → Switch → ℕ → Span → Type 0
+AsksWithin n x d span = (port : ℕ) (g : Grant) → port < n → ask_at x d port ≡ Some g
+    → (span.first ≤ g.out) × (g.out ≤ span.last)

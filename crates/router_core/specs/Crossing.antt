@@ -1,5 +1,5 @@
 -- The switch of a domain: its outputs send, one after the other.
-use Rattle.std.specs.Prelude.{◌≡◌, ◌≢◌, ℕ, ◌+◌, ◌-◌, ◌<◌, ◌≤◌, ◌&&◌, nat_lt, Bool, true, false, not, List, length, drop, slice_index_or, slice_set, Option, Some, None, option_and_then, option_map, if◌then◌else◌, ℤ, pos}
+use Rattle.std.specs.Prelude.{◌≡◌, ◌≢◌, ℕ, ◌-◌, ◌<◌, ◌≤◌, ◌&&◌, nat_lt, true, false, not, List, length, drop, slice_index_or, slice_set, Option, Some, None, option_and_then, option_map, if◌then◌else◌, ℤ, pos}
 use Rattle.noc_model.specs.declared.Flit.{Flit}
 use Rattle.noc_model.specs.declared.LinkFlit.{LinkFlit}
 use Rattle.noc_model.specs.declared.Grant.{Grant}
@@ -13,7 +13,7 @@ use Rattle.noc_model.specs.SoundState.{HasOutput}
 use Rattle.credit_links.specs.Counts.{count_at}
 use Rattle.vc_alloc.specs.Allocator.{held_at}
 use Rattle.slot_switch.specs.declared.Granted.{Granted}
-use Rattle.slot_switch.specs.Switch.{switch_at, granted_in, moved}
+use Rattle.slot_switch.specs.Switch.{switch_at, moved}
 use Rattle.slot_switch.specs.Asked.{AsksAs}
 use Rattle.router_core.specs.Heads.{front_of, placed}
 use Rattle.router_core.specs.Parts.{Parts}

@@ -18,6 +18,14 @@ is_busy [] Idle = false
 is_busy [] (Routed o) = true
 is_busy [] (Active o w) = true
 
+-- whether the head of a packet waits at an input in this stage and with these flits: for a route, or for a channel of its
+-- output
+abbrev pub has_head : Stage → List Flit → Bool
+has_head Idle [] = false
+has_head Idle (f ∷ fs) = true
+has_head (Routed o) fs = true
+has_head (Active o w) fs = false
+
 -- domain d has nothing to do: none of its inputs is busy, no flit left one in the last cycle, and nothing is at its
 -- attachment
 pub record IsIdleFor (p : Plan) (r : Parts) (d : ℕ) : Type 0 where

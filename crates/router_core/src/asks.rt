@@ -1,6 +1,6 @@
 //! What the input ports of a tile ask for.
 
-ghost use Rattle.std.specs.Prelude.{◌≡◌, ◌<◌, length, IfSome};
+ghost use Rattle.std.specs.Prelude.{◌≡◌, ◌<◌, ◌≤◌, length, IfSome};
 ghost use Rattle.noc_model.specs.Step.{grant_at};
 ghost use Rattle.noc_model.specs.Plan.{ports};
 ghost use Rattle.router_core.specs.Asks.{asking};
@@ -19,6 +19,35 @@ pub(crate) fn grant_at(channel: u32, stage: Stage) -> Option<Grant>
     match stage {
         Stage::Active { out, to } => Some(Grant { channel, out, to }),
         Stage::Idle | Stage::Routed { .. } => None,
+    }
+}
+
+/// The outputs from the first to the last: none where the last is below the first.
+#[derive(Clone, Copy)]
+pub(crate) struct Span {
+    pub(crate) first: u32,
+    pub(crate) last: u32,
+}
+
+/// The span that has this output too.
+fn with_output(span: Span, out: u32) -> Span
+    ensures from { (result.first ≤ span.first) × (span.last ≤ result.last) }
+    ensures has { (result.first ≤ out) × (out ≤ result.last) }
+{
+    Span {
+        first: if out < span.first { out } else { span.first },
+        last: if span.last < out { out } else { span.last },
+    }
+}
+
+/// The span that has the output of what is asked for too, if it is anything.
+pub(crate) fn with_asked(span: Span, asked: Option<Grant>) -> Span
+    ensures from { (result.first ≤ span.first) × (span.last ≤ result.last) }
+    ensures has { IfSome asked (λ grant. (result.first ≤ grant.out) × (grant.out ≤ result.last)) }
+{
+    match asked {
+        Some(grant) => with_output(span, grant.out),
+        None => span,
     }
 }
 

@@ -10,7 +10,7 @@ ghost use Rattle.vc_alloc.specs.Allocator.{link_channels_at, best_at, committed,
 ghost use Rattle.vc_alloc.specs.Shown.{IsFor, GoesBelow, wanted_at};
 ghost use Rattle.vc_alloc.specs.Progress.{KnowsBelow};
 ghost use Rattle.router_core.specs.Heads.{front_of, headed, headed_to, given, FrontsGo, GivesBelow};
-ghost use Rattle.router_core.specs.Idle.{is_busy};
+ghost use Rattle.router_core.specs.Idle.{has_head, is_busy};
 ghost use Rattle.router_core.specs.Sizes.{HasBuffers, HasAllocator};
 
 use crate::buffers::Buffers;
@@ -27,6 +27,18 @@ pub(crate) fn is_busy(count: u32, stage: Stage) -> bool
     match stage {
         Stage::Idle => count > 0,
         Stage::Routed { .. } | Stage::Active { .. } => true,
+    }
+}
+
+/// Whether the head of a packet waits at an input that has so many flits, in this stage: for a route, or for a channel of
+/// its output.
+pub(crate) fn has_head(count: u32, stage: Stage) -> bool
+    ensures { (fs : List FlitValue) → length fs ≡ count → result ≡ has_head stage fs }
+{
+    match stage {
+        Stage::Idle => count > 0,
+        Stage::Routed { .. } => true,
+        Stage::Active { .. } => false,
     }
 }
 

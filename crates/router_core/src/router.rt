@@ -19,11 +19,11 @@ ghost use Rattle.vc_alloc.specs.Allocator.{best_at, held_at};
 ghost use Rattle.slot_switch.specs.Switch.{ask_at, granted_in};
 ghost use Rattle.vc_alloc.specs.Shown.{GoesBelow};
 ghost use Rattle.router_core.specs.Buffers.{lists_at, flits_at, with_flits};
-ghost use Rattle.router_core.specs.Idle.{is_busy, IsIdleFor, IsIdle};
+ghost use Rattle.router_core.specs.Idle.{has_head, is_busy, IsIdleFor, IsIdle};
 ghost use Rattle.tile_iface.specs.Iface.{taken};
 ghost use Rattle.router_core.specs.Attachments.{attachment_at, told_at, outside};
 ghost use Rattle.router_core.specs.Attach.{entered, attached_parts, attached};
-ghost use Rattle.router_core.specs.Asks.{HaveOutputs, AsksBelow, requested};
+ghost use Rattle.router_core.specs.Asks.{HaveOutputs, AsksBelow, AsksWithin, requested};
 ghost use Rattle.router_core.specs.Heads.{FrontsGo, placed, front_of};
 ghost use Rattle.router_core.specs.Sends.{ends, passed_parts, passed};
 ghost use Rattle.router_core.specs.Advance.{cycled};
@@ -34,12 +34,12 @@ ghost use Rattle.router_core.specs.Pulses.{ArePulses, no_pulses, pulse_at};
 ghost use Rattle.router_core.specs.Sizes.{HasBuffers, IsMade};
 ghost use Rattle.router_core.specs.Shown.{Shows, with_flit, with_credit};
 
-use crate::asks::{ask, clear_ports, grant_at};
+use crate::asks::{Span, ask, clear_ports, grant_at, with_asked};
 use crate::attachments::{
     Attachment, Told, attachment_after, nothing_told, start_attachments, taken,
 };
 use crate::buffers::Buffers;
-use crate::heads::{give_channels, is_busy, route_heads, want_heads};
+use crate::heads::{give_channels, has_head, is_busy, route_heads, want_heads};
 use crate::sends::{
     ejecting, empty_links, finish, free, is_tail, lay, lift, pulse, spend, with_channel,
 };
@@ -270,9 +270,54 @@ impl Router {
         clear_ports(plan, d, &mut self.switch, &mut self.pulses);
     }
 
-    /// Places the heads of domain `d`: a packet whose head has come to the front of an idle channel gets its route, and
-    /// of the packets that wait for an output the round-robin choice gets the least free channel of its class.
+    /// Whether a head of domain `d` waits at the input at place `k`.
+    fn has_head(&self, d: u32, k: u32) -> bool
+        requires domain { d < length self.now.buffers }
+        requires place { k < length (lists_at self.now.buffers d).lists }
+        requires stages { d < length self.now.stages }
+        requires stage { k < length (lane self.now.stages d) }
+        ensures { result ≡ has_head (stage_at self.now.stages d k) (flits_at self.now.buffers d k) }
+    {
+        has_head(self.buffers.len(d, k), *self.stages.at(d, k))
+    }
+
+    /// Whether a head of domain `d` waits at any of its inputs.
+    fn has_heads(&self, plan: &Plan, d: u32) -> bool
+        requires made { IsMade self.now plan.now }
+        requires domain { d < length plan.now.domains }
+        ensures { result ≡ false → (k : ℕ) → k < input_count plan.now d
+            → has_head (stage_at self.now.stages d k) (flits_at self.now.buffers d k) ≡ false }
+    {
+        for k in 0..plan.ports() * plan.link_channels(d) {
+            if self.has_head(d, k) {
+                return true;
+            }
+        }
+        false
+    }
+
+    /// Places the heads of domain `d`, if any waits: a packet whose head has come to the front of an idle channel gets its
+    /// route, and of the packets that wait for an output the round-robin choice gets the least free channel of its class.
     fn place_heads(&mut self, plan: &Plan, d: u32)
+        requires made { IsMade self.old plan.now }
+        requires domain { d < length plan.now.domains }
+        requires dest { FrontsGo plan.now self.old.buffers d }
+        requires outs { (k : ℕ) → GoesBelow (ports plan.now) (stage_at self.old.stages d k) }
+        requires quiet { (o : ℕ) → best_at self.old.allocator o ≡ None }
+        ensures rest { self.new ≡ record self.old { allocator = self.new.allocator; stages = self.new.stages } }
+        ensures own { (s : Tile) → Shows self.old plan.now d s
+            → Shows self.new plan.now d (placed plan.now d self.old.tile s) }
+        ensures others { (e : ℕ) (s : Tile) → e ≢ d → Shows self.old plan.now e s → Shows self.new plan.now e s }
+        ensures made { IsMade self.new plan.now }
+        ensures quiet { (o : ℕ) → o < ports plan.now → best_at self.new.allocator o ≡ None }
+    {
+        if self.has_heads(plan, d) {
+            self.place_waiting(plan, d);
+        }
+    }
+
+    /// Places the heads of domain `d`, as in `place_heads`.
+    fn place_waiting(&mut self, plan: &Plan, d: u32)
         requires made { IsMade self.old plan.now }
         requires domain { d < length plan.now.domains }
         requires dest { FrontsGo plan.now self.old.buffers d }
@@ -345,9 +390,12 @@ impl Router {
             → result ≡ requested plan.now d self.now.tile (pos t) s (outside (told_at self.now.told d)) k }
         ensures channel { IfSome result (λ grant. grant.channel < 8) }
     {
+        if !self.is_ready(plan, d, k) {
+            return None;
+        }
         let channels = plan.link_channels(d);
         let channel = k % channels;
-        if channel < channel_count(plan, d, k / channels) && self.is_ready(plan, d, k) {
+        if channel < channel_count(plan, d, k / channels) {
             grant_at(channel, *self.stages.at(d, k))
         } else {
             None
@@ -404,8 +452,26 @@ impl Router {
         with_channel(grant.to, flit)
     }
 
+    /// An output of domain `d` picks one of the input ports that ask for it, and sends its flit. Only outputs of the span
+    /// are asked for.
+    fn send(&mut self, plan: &Plan, d: u32, out: u32, asked: Span) -> Option<LinkFlit>
+        requires made { IsMade self.old plan.now }
+        requires domain { d < length plan.now.domains }
+        requires output { out < ports plan.now }
+        requires pass { IfSome (granted_in self.old.switch d out) (λ x. CanPass plan.now d self.old x) }
+        requires span { AsksWithin (ports plan.now) self.old.switch d asked }
+        ensures flit { result ≡ sent_by self.old plan.now d (granted_in self.old.switch d out) }
+        ensures value { self.new ≡ sent_parts self.old plan.now d out (granted_in self.old.switch d out) }
+    {
+        if asked.first <= out && out <= asked.last {
+            self.send_chosen(plan, d, out)
+        } else {
+            None
+        }
+    }
+
     /// An output of domain `d` picks one of the input ports that ask for it, and sends its flit.
-    fn send(&mut self, plan: &Plan, d: u32, out: u32) -> Option<LinkFlit>
+    fn send_chosen(&mut self, plan: &Plan, d: u32, out: u32) -> Option<LinkFlit>
         requires made { IsMade self.old plan.now }
         requires domain { d < length plan.now.domains }
         requires output { out < ports plan.now }
@@ -419,18 +485,20 @@ impl Router {
         }
     }
 
-    /// Whether no input port of domain `d` asks for anything.
-    fn asks_nothing(&self, plan: &Plan, d: u32) -> bool
+    /// A span of the outputs that the input ports of domain `d` ask for.
+    fn asked_outputs(&self, plan: &Plan, d: u32) -> Span
         requires made { IsMade self.now plan.now }
         requires domain { d < length plan.now.domains }
-        ensures { IsTrue result ↔ ((port : ℕ) → ask_at self.now.switch d port ≡ None) }
+        ensures { AsksWithin (ports plan.now) self.now.switch d result }
     {
+        let mut span = Span {
+            first: plan.ports(),
+            last: 0,
+        };
         for port in 0..plan.ports() {
-            if self.switch.asked(d, port).is_some() {
-                return false;
-            }
+            span = with_asked(span, self.switch.asked(d, port));
         }
-        true
+        span
     }
 
     /// Each output of domain `d` sends the flit that the definition sends there: it takes the place of what was in
@@ -442,11 +510,9 @@ impl Router {
         requires can { CanSend plan.now d self.old }
         ensures { SendsBelow (ports plan.now) plan.now d self.old self.new links.old links.new }
     {
-        if self.asks_nothing(plan, d) {
-            return;
-        }
+        let asked = self.asked_outputs(plan, d);
         for out in 0..plan.ports() {
-            let flit = self.send(plan, d, out);
+            let flit = self.send(plan, d, out, asked);
             lay(links, out, flit);
         }
     }

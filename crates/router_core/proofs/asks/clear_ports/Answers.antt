@@ -1,8 +1,4 @@
-use Rattle.std.proofs.Common.{◌≡◌, ◌∙◌, ◌+◌, ◌<◌, ◌≤◌, ℕ, List, Option, sym, ap, subst, arith}
-use Rattle.noc_model.specs.Plan.{ports}
-use Rattle.slot_switch.specs.Switch.{Switch}
-use Rattle.router_core.specs.Ready.{ClearBelow}
-use Rattle.router_core.proofs.Cleared.{clear-none, clear-more}
+use Rattle.router_core.proofs.Cleared.{clear-none}
 use Rattle.router_core.proofs.asks.clear_ports.Goals as goal
 
 pub loop-port-init : goal.loop-port-init

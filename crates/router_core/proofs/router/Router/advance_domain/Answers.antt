@@ -1,12 +1,9 @@
-use Rattle.std.proofs.Common.{◌≡◌, ◌≢◌, ◌∙◌, ◌<◌, ℕ, List, Option, None, length, length-set, sym, ap, subst, arith}
+use Rattle.std.proofs.Common.{◌∙◌, ◌<◌, None, length, length-set, sym, ap, subst, arith}
 use Rattle.std.specs.Prelude.{pos}
-use Rattle.noc_model.specs.declared.LinkFlit.{LinkFlit}
-use Rattle.noc_model.specs.Plan.{ports}
 use Rattle.noc_model.specs.Step.{sent}
-use Rattle.noc_model.specs.Tile.{Tile}
 use Rattle.vc_alloc.specs.Allocator.{best_at}
 use Rattle.router_core.specs.Attachments.{told_at, outside}
-use Rattle.router_core.specs.Crossing.{laid, laid_at, flit_of, switched}
+use Rattle.router_core.specs.Crossing.{laid, switched}
 use Rattle.router_core.specs.Parts.{Parts}
 use Rattle.router_core.specs.Pulses.{ArePulses}
 use Rattle.router_core.proofs.Advanced.{ports-some, lifted-other, eject-is, open-room, cycled-is, whole-step}

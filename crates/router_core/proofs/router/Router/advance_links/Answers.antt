@@ -1,7 +1,4 @@
-use Rattle.std.proofs.Common.{◌≡◌, ◌∙◌, ◌<◌, ◌≤◌, ℕ, length, sym, ap, subst, arith}
-use Rattle.noc_model.specs.Plan.{ports}
-use Rattle.noc_model.specs.Tile.{Tile}
-use Rattle.router_core.specs.Crossing.{laid_at}
+use Rattle.std.proofs.Common.{◌∙◌, ◌<◌, length, arith}
 use Rattle.router_core.proofs.Advanced.{ready-still, advances-none, advances-more}
 use Rattle.router_core.proofs.router.Router.advance_links.Goals as goal
 

@@ -1,4 +1,4 @@
-use Rattle.std.proofs.Common.{◌≡◌, ◌∙◌, ◌<◌, ◌≤◌, ◌+◌, ◌*◌, ◌/◌, ℕ, length, sym, ap, subst, arith}
+use Rattle.std.proofs.Common.{◌≡◌, ◌∙◌, ◌<◌, ◌≤◌, ◌+◌, ◌*◌, ◌/◌, sym, ap, subst, arith}
 use Rattle.std.specs.Prelude.{pos}
 use Rattle.noc_model.specs.Plan.{ports}
 use Rattle.noc_model.specs.Inputs.{input_count}

@@ -1,11 +1,11 @@
-use Rattle.std.proofs.Common.{◌≡◌, ◌∙◌, ◌<◌, ℕ, Bool, true, Option, List, length, get_or, set, sym, ap, subst, arith}
+use Rattle.std.proofs.Common.{◌≡◌, ◌∙◌, ◌<◌, ℕ, Bool, Option, List, length, get_or, set, sym, ap, subst, arith}
 use Rattle.std.specs.Prelude.{IfSome}
 use Rattle.std.proofs.lemmas.List.{get_or_read}
 use Rattle.noc_model.specs.declared.Flit.{Flit}
 use Rattle.noc_model.specs.declared.Offer.{Offer}
 use Rattle.noc_model.specs.Plan.{Plan, channels}
 use Rattle.noc_model.specs.Inputs.{place}
-use Rattle.noc_model.specs.Step.{entry, is_ready_packet}
+use Rattle.noc_model.specs.Step.{entry}
 use Rattle.tile_iface.specs.Iface.{taken}
 use Rattle.router_core.specs.declared.attachments.Attachment.{Attachment}
 use Rattle.router_core.specs.declared.attachments.Told.{Told}

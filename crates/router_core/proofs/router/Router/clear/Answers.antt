@@ -1,8 +1,7 @@
-use Rattle.std.proofs.Common.{◌≡◌, ◌∙◌, ℕ, sym, ap, subst}
+use Rattle.std.proofs.Common.{sym, subst}
 use Rattle.router_core.specs.contracts.router.Router.{the_view}
 use Rattle.router_core.specs.Parts.{Parts}
 use Rattle.router_core.specs.Pulses.{ArePulses}
-use Rattle.router_core.specs.Ready.{silent}
 use Rattle.router_core.specs.Sizes.{IsMade}
 use Rattle.router_core.specs.Shown.{Shows}
 use Rattle.router_core.proofs.Cleared.{clear_parts, clear-made, clear-quiet, clear-own, clear-others}

@@ -1,4 +1,4 @@
-use Rattle.std.proofs.Common.{◌≡◌, ◌<◌, sym, subst, arith, ⊎_elim}
+use Rattle.std.proofs.Common.{sym, subst, arith, ⊎_elim}
 use Rattle.std.proofs.lemmas.Bool.Decides.{eqb_tells}
 use Rattle.router_core.specs.Idle.{IsIdleFor}
 use Rattle.router_core.proofs.router.Router.is_idle.Goals as goal

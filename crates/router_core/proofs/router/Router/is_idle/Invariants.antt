@@ -1,4 +1,4 @@
-use Rattle.std.proofs.Common.{◌≡◌, ◌<◌, ℕ}
+use Rattle.std.proofs.Common.{◌<◌, ℕ}
 use Rattle.router_core.specs.Idle.{IsIdleFor}
 use Rattle.router_core.proofs.router.Router.is_idle.Given as goal
 

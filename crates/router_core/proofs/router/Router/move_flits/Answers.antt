@@ -1,14 +1,11 @@
-use Rattle.std.proofs.Common.{◌≡◌, ◌∙◌, ℕ, length, get_or, sym, ap, subst, None}
-use Rattle.std.specs.Prelude.{pos}
+use Rattle.std.proofs.Common.{◌≡◌, ◌∙◌, ℕ, get_or, sym, ap, subst, None}
 use Rattle.noc_model.specs.Plan.{ports}
-use Rattle.noc_model.specs.Step.{sent}
-use Rattle.noc_model.specs.Tile.{Tile}
 use Rattle.route_stage.specs.Routed.{stage_at}
 use Rattle.vc_alloc.specs.Allocator.{best_at}
 use Rattle.vc_alloc.specs.Shown.{GoesBelow}
 use Rattle.router_core.specs.Asks.{HaveOutputs}
 use Rattle.router_core.specs.Crossing.{CanSend, SendsBelow, laid, laid_at}
-use Rattle.router_core.specs.Heads.{FrontsGo, placed}
+use Rattle.router_core.specs.Heads.{FrontsGo}
 use Rattle.router_core.specs.Parts.{Parts}
 use Rattle.router_core.specs.Pulses.{ArePulses}
 use Rattle.router_core.proofs.Moving.{ready-outs, ready-fronts, ready-below, path2, path3, has-placed, is-sending, all-sent, all-flits, can-send, best-none}

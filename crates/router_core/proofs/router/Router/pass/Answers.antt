@@ -1,17 +1,16 @@
-use Rattle.std.proofs.Common.{◌≡◌, ◌∙◌, ℕ, Bool, true, List, drop, refl, sym, ap, subst, Option}
+use Rattle.std.proofs.Common.{◌≡◌, ◌∙◌, ℕ, Bool, true, List, drop, sym, ap, subst, Option}
 use Rattle.noc_model.specs.declared.Flit.{Flit}
 use Rattle.noc_model.specs.declared.Grant.{Grant}
 use Rattle.noc_model.specs.Plan.{Plan}
-use Rattle.noc_model.specs.declared.Stage.{Stage}
 use Rattle.noc_model.specs.Step.{is_tail, with_channel}
 use Rattle.noc_model.specs.Inputs.{place}
 use Rattle.flit_pool.specs.Lists.{Lists}
-use Rattle.vc_alloc.specs.Allocator.{Allocator, held_at}
+use Rattle.vc_alloc.specs.Allocator.{held_at}
 use Rattle.router_core.specs.contracts.router.Router.{the_view}
 use Rattle.router_core.specs.Buffers.{flits_at, with_flits}
 use Rattle.router_core.specs.Heads.{front_of}
 use Rattle.router_core.specs.Parts.{Parts}
-use Rattle.router_core.specs.Sends.{pulsed, spent, finished, freed, ends, passed_parts, passed}
+use Rattle.router_core.specs.Sends.{finished, freed, ends, passed_parts, passed}
 use Rattle.router_core.specs.Sizes.{IsMade}
 use Rattle.router_core.specs.Shown.{Shows}
 use Rattle.router_core.proofs.Passed.{passed-made, passed-own, passed-others}

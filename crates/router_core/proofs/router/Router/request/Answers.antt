@@ -1,9 +1,8 @@
-use Rattle.std.proofs.Common.{◌≡◌, ◌∙◌, ◌<◌, ◌%◌, ◌/◌, ℕ, Bool, true, sym, ap, subst, arith, None}
+use Rattle.std.proofs.Common.{◌≡◌, ◌∙◌, ◌<◌, ◌%◌, ◌/◌, Bool, true, false, refl, sym, ap, arith, None}
 use Rattle.std.specs.Prelude.{nat_lt, ◌&&◌, pos, if◌then◌else◌}
 use Rattle.std.proofs.lemmas.Bool.Decides.{nat_tests}
-use Rattle.noc_model.specs.declared.Stage.{Stage}
 use Rattle.noc_model.specs.declared.Stage.TheVariants.{Idle}
-use Rattle.noc_model.specs.Plan.{link_channels, in_channels}
+use Rattle.noc_model.specs.Plan.{in_channels}
 use Rattle.noc_model.specs.Inputs.{input_port, input_channel}
 use Rattle.noc_model.specs.Step.{is_ready, grant_at}
 use Rattle.vc_partition.specs.Lanes.{lane}
@@ -14,8 +13,22 @@ use Rattle.router_core.specs.Parts.{Parts}
 use Rattle.router_core.proofs.Takes.{stage-there}
 use Rattle.router_core.proofs.router.Router.request.Goals as goal
 
-pub returns-then-is_ready-clause-value : goal.returns-then-is_ready-clause-value
-returns-then-is_ready-clause-value c = λ s t shown stands.
+and-false : (a b : Bool) → b ≡ false → (a && b) ≡ false
+and-false true b e = e
+and-false false b e = refl
+
+pub returns-then-not-is_ready-clause-value : goal.returns-then-not-is_ready-clause-value
+returns-then-not-is_ready-clause-value c = λ s t shown stands.
+    let p = c.args.plan.now in
+    let d = c.args.d in
+    let k = c.args.k in
+    let now = c.args.self.now in
+    let ready = is_ready p d now.tile (pos t) s (outside (told_at now.told d)) (input_port p d k) (input_channel p d k) in
+    sym (ap (λ b. if b then grant_at (input_channel p d k) (s.stage (input_port p d k) (input_channel p d k)) else None)
+    (and-false (nat_lt (input_channel p d k) (in_channels p d (input_port p d k))) ready (sym (c.is_ready.ensures s t shown stands) ∙ c.if-not-is_ready.true)))
+
+pub returns-then-channel-channel_count-clause-value : goal.returns-then-channel-channel_count-clause-value
+returns-then-channel-channel_count-clause-value c = λ s t shown stands.
     let p = c.args.plan.now in
     let d = c.args.d in
     let k = c.args.k in
@@ -26,7 +39,7 @@ returns-then-is_ready-clause-value c = λ s t shown stands.
     let count : c.channel_count.result ≡ in_channels p d (input_port p d k) = c.channel_count.ensures.value ∙ ap (in_channels p d) port in
     let inside : nat_lt (input_channel p d k) (in_channels p d (input_port p d k)) ≡ true =
     let a : input_channel p d k < in_channels p d (input_port p d k) = omega (arith, ch, count, c.if-channel-channel_count.true) in grind (arith, nat_tests) in
-    let ready : is_ready p d now.tile (pos t) s i (input_port p d k) (input_channel p d k) ≡ true = sym (c.is_ready.ensures s t shown stands) ∙ c.if-is_ready.true in
+    let ready : is_ready p d now.tile (pos t) s i (input_port p d k) (input_channel p d k) ≡ true = sym (c.is_ready.ensures s t shown stands) ∙ c.if-not-is_ready.false in
     let stage : c.at.result.now ≡ s.stage (input_port p d k) (input_channel p d k) =
     sym (get-some (lane c.self.inside.stages d) k c.at.result.now Idle c.at.ensures) ∙ ap (λ (r : Parts). stage_at r.stages d k) c.self.view_is ∙ stage-there now p d s k shown c.requires.input in
     let test = ap (λ b. b && is_ready p d now.tile (pos t) s i (input_port p d k) (input_channel p d k)) inside ∙ ready in

@@ -1,10 +1,12 @@
-use Rattle.std.proofs.Common.{◌≡◌, ◌∙◌, ◌+◌, ◌<◌, ◌≤◌, ℕ, List, Option, sym, ap, subst, arith}
+use Rattle.std.proofs.Common.{◌≡◌, ◌∙◌, ◌+◌, List, Option, None, sym, ap, subst, arith}
+use Rattle.std.specs.Prelude.{slice_index_or}
 use Rattle.noc_model.specs.declared.LinkFlit.{LinkFlit}
 use Rattle.noc_model.specs.Plan.{ports}
+use Rattle.vc_partition.specs.Lanes.{lane}
 use Rattle.slot_switch.specs.Switch.{granted_in}
 use Rattle.router_core.specs.Parts.{Parts}
-use Rattle.router_core.specs.Crossing.{SendsBelow, sent_parts, sent_by, laid_on}
-use Rattle.router_core.proofs.Sending.{sends-none, sends-more, sends-nothing, may-send}
+use Rattle.router_core.specs.Crossing.{SendsBelow, sent_parts, laid_on}
+use Rattle.router_core.proofs.Sending.{sends-none, sends-more, may-send}
 use Rattle.router_core.proofs.router.Router.send_all.Goals as goal
 
 pub loop-out-init : goal.loop-out-init
@@ -15,6 +17,11 @@ send-flit-requires-clause-pass c =
     let n = c.ports-out-end.ensures.value in
     may-send c.loop-out.out c.args.plan.now c.args.d c.args.self.now c.loop-out.self c.args.links.now c.loop-out.links c.loop-out.invariant c.requires.domain
     (omega (arith, n, c.loop-out-test.true)) c.requires.links c.requires.made c.requires.can
+
+pub send-flit-requires-clause-span : goal.send-flit-requires-clause-span
+send-flit-requires-clause-span c = λ port g inside e.
+    let d = c.args.d in
+    c.asked_outputs-asked.ensures port g inside (ap (λ asks. slice_index_or (lane asks d) port None) (sym c.loop-out.invariant.asks) ∙ e)
 
 pub loop-out-preserved : goal.loop-out-preserved
 loop-out-preserved c =
@@ -32,6 +39,8 @@ loop-out-preserved c =
     (subst Q (sym (c.lay.ensures ∙ ap (laid_on ys o) c.send-flit.ensures.flit))
     (sends-more o p d r q xs ys c.loop-out.invariant c.requires.domain (omega (arith, n, c.loop-out-test.true)) c.requires.links c.requires.made c.requires.can))
 
-pub returns-then-asks_nothing : goal.returns-then-asks_nothing
-returns-then-asks_nothing c = let p = c.args.plan.now in
-    sends-nothing (ports p) p c.args.d c.args.self.now c.args.links.now c.requires.domain c.requires.links c.requires.made c.requires.can (c.asks_nothing.ensures.0 c.if-asks_nothing.true) (omega arith)
+pub returns : goal.returns
+returns c =
+    let p = c.args.plan.now in
+    let end : c.loop-out.out ≡ ports p = omega (arith, c.ports-out-end.ensures.value, c.loop-out-test.false, c.loop-out.auto.out-end) in
+    subst (λ k. SendsBelow k p c.args.d c.args.self.now c.loop-out.self c.args.links.now c.loop-out.links) end c.loop-out.invariant

@@ -1,4 +1,4 @@
-use Rattle.std.proofs.Common.{◌≡◌, sym, subst, set}
+use Rattle.std.proofs.Common.{sym, subst}
 use Rattle.router_core.specs.Parts.{Parts}
 use Rattle.router_core.specs.Sizes.{IsMade}
 use Rattle.router_core.specs.Shown.{Shows}

@@ -1,6 +1,5 @@
-use Rattle.std.proofs.Common.{◌≡◌, ◌∙◌, ◌+◌, ℕ, sym, ap, subst}
-use Rattle.wave_sched.specs.Wheels.{Stands, wheel_ports}
-use Rattle.wave_sched.proofs.Standing.{wheel_ports-is}
+use Rattle.std.proofs.Common.{◌+◌, sym, subst}
+use Rattle.wave_sched.specs.Wheels.{Stands}
 use Rattle.router_core.specs.contracts.router.Router.{the_view}
 use Rattle.router_core.specs.Parts.{Parts}
 use Rattle.router_core.specs.Sizes.{IsMade}

@@ -1,0 +1,5 @@
+use Rattle.router_core.specs.Asks.{AsksWithin}
+use Rattle.router_core.proofs.router.Router.asked_outputs.Given as goal
+
+abbrev pub invariant-loop-port : goal.invariant-loop-port
+invariant-loop-port l = AsksWithin l.port l.self.switch l.d l.span
