@@ -1,9 +1,17 @@
 //! Worked rows: the words of a run over files in memory, and its status and bytes.
 
+ghost use Rattle.std.specs.Prelude.{◌≡◌, length};
+
 use super::{Status, surf};
+use crate::judging::judge;
+use crate::text_judging::judge_text;
+use aig_design::aig_of;
+use aig_out::AigRun;
 use std::alloc::{AllocError, Global};
 use std::test::Fail;
 use surf_base::{MemFiles, MemSink};
+use vl_rules::Sound;
+use vl_run::Machine;
 
 const TWO_TILES: &str = "version = 1\nshape = \"mesh\"\ndims = [2]\nstages = 2\nbuffer = 2\n\
 domain = [{name = \"a\", channels = 1}, {name = \"b\", channels = 1}]\n\
@@ -84,6 +92,11 @@ domain = [{name = \"a\", channels = 1}]\n\
 tile = [{at = 0, domains = [\"a\"]}]\n\
 range = [{tile = 0, first = 0x10, last = 0x1f}]\n";
 
+const THREE_PLACES: &str = "version = 1\nshape = \"mesh\"\ndims = [1]\nstages = 1\nbuffer = 3\n\
+domain = [{name = \"a\", channels = 1}]\n\
+tile = [{at = 0, domains = [\"a\"]}]\n\
+range = [{tile = 0, first = 0x10, last = 0x1f}]\n";
+
 const SHARED_CORNERS: &str =
     "version = 1\nshape = \"mesh\"\ndims = [4, 4]\nstages = 1\nbuffer = 4\n\
 domain = [{name = \"d0\", channels = 1}, {name = \"d1\", channels = 1},\n\
@@ -105,6 +118,10 @@ range = [{tile = 0, first = 0x0, last = 0xfff}, {tile = 1, first = 0x1000, last 
 {tile = 12, first = 0xc000, last = 0xcfff}, {tile = 13, first = 0xd000, last = 0xdfff},\n\
 {tile = 14, first = 0xe000, last = 0xefff}, {tile = 15, first = 0xf000, last = 0xffff}]\n";
 
+const MANY_PLACES: &str = "version = 1\nshape = \"torus\"\ndims = [8, 8]\nstages = 1\nbuffer = 4\n\
+domain = [{name = \"a\", channels = 2}, {name = \"b\", channels = 2}, {name = \"c\", channels = 2}, \
+{name = \"d\", channels = 2}]\n";
+
 /// Runs the words over these files, by name, and answers the status and what is on the output and the error stream.
 fn run_over(
     rt: &HostRuntime,
@@ -118,7 +135,7 @@ fn run_over(
     for (name, bytes) in held {
         files.put(name, bytes)?;
     }
-    let mut out = MemSink::new(alloc, 65536, 8, sink_fails)?;
+    let mut out = MemSink::new(alloc, 131072, 8, sink_fails)?;
     let mut err = MemSink::new(alloc, 4096, 64, &[])?;
     let mut list = Vec::new(alloc);
     for word in words.split_whitespace() {
@@ -270,6 +287,21 @@ fn each_command_gives_its_status_and_bytes(rt: HostRuntime) -> Result<(), Fail> 
             "surf: usage\n",
         ),
         ("--help", None, Status::Usage, "", "surf: usage\n"),
+        (
+            "aiger d",
+            Some(MANY_PLACES),
+            Status::Size,
+            "",
+            "surf: too many places\n",
+        ),
+        (
+            "aiger d t",
+            Some(ONE_TILE),
+            Status::Usage,
+            "",
+            "surf: usage\n",
+        ),
+        ("aiger", Some(ONE_TILE), Status::Usage, "", "surf: usage\n"),
     ];
     for (words, content, status, out, err) in rows {
         let got = run(
@@ -354,6 +386,7 @@ fn statuses_have_their_numbers(rt: HostRuntime) {
         (Status::Memory, 8),
         (Status::TooLong, 9),
         (Status::Domain, 10),
+        (Status::Size, 11),
     ];
     for (status, number) in rows {
         assert_eq!(rt; status.number(), number);
@@ -758,6 +791,19 @@ fn a_compiled_text_replays_as_the_simulation(rt: HostRuntime) -> Result<(), Fail
         (ONE_TILE, ONE_WORD, "simulate d t 6", "replay d v t 6"),
         (ONE_PLACE, DEAF, "simulate d t 16", "replay d v t 16"),
         (ONE_LINK, MEET, "simulate d t 12", "replay d v t 12"),
+        (WEIGHTED, MEET, "simulate d t 12", "replay d v t 12"),
+        (
+            RING_OF_THREE,
+            "0 2 a send 0 9\n",
+            "simulate d t 10",
+            "replay d v t 10",
+        ),
+        (
+            CUBE,
+            "0 0 a send 700 5\n",
+            "simulate d t 20",
+            "replay d v t 20",
+        ),
     ];
     for (content, trace, simulated, replayed) in rows {
         let held = Some(content.as_bytes());
@@ -770,6 +816,199 @@ fn a_compiled_text_replays_as_the_simulation(rt: HostRuntime) -> Result<(), Fail
         assert_eq!(rt; out.as_str(), reports.as_str(), "{content}");
         assert_eq!(rt; err.as_str(), "", "{content}");
     }
+    Ok(())
+}
+
+/// The text of an accepted description.
+fn compiled(rt: &HostRuntime, content: &str) -> Result<String, Fail> {
+    let (_, text, _) = run(rt, "compile d", Some(content.as_bytes()), None, &[], &[])?;
+    Ok(text)
+}
+
+#[test]
+fn compiled_texts_isolate_their_domains(rt: HostRuntime) -> Result<(), Fail> {
+    let rows = [
+        (ONE_TILE, "isolated domains 1 phases 1\n"),
+        (TWO_TILES, "isolated domains 2 phases 2\n"),
+        (WEIGHTED, "isolated domains 2 phases 3\n"),
+        (ROW_OF_FIVE, "isolated domains 3 phases 3\n"),
+    ];
+    for (content, isolated) in rows {
+        let text = compiled(&rt, content)?;
+        let (status, out, err) = replay(&rt, "audit d v", content, text.as_bytes(), "")?;
+        assert!(rt; status == Status::Good, "{content}");
+        assert_eq!(rt; out.as_str(), isolated, "{content}");
+        assert_eq!(rt; err.as_str(), "", "{content}");
+    }
+    Ok(())
+}
+
+/// The numbers of the input ports of a tile in 16 cycles: words 1 to 3 are offered until they are taken, in the cycles
+/// in which `ONE_PLACE` takes them, and the tile hears from cycle 10 on.
+const OFFERS: [[u64; 5]; 16] = [
+    [1, 16, 1, 1, 0],
+    [1, 16, 2, 1, 0],
+    [1, 16, 2, 1, 0],
+    [1, 16, 2, 1, 0],
+    [1, 16, 2, 1, 0],
+    [1, 16, 3, 1, 0],
+    [1, 16, 3, 1, 0],
+    [1, 16, 3, 1, 0],
+    [1, 16, 3, 1, 0],
+    [1, 16, 3, 1, 0],
+    [1, 16, 3, 1, 1],
+    [1, 16, 3, 1, 1],
+    [0, 0, 0, 0, 1],
+    [0, 0, 0, 0, 1],
+    [0, 0, 0, 0, 1],
+    [0, 0, 0, 0, 1],
+];
+
+/// The design of a text for `ONE_PLACE`.
+fn one_place(alloc: Global, text: &str) -> Result<Sound, AllocError> {
+    let Ok(plan) = judge(alloc, ONE_PLACE.as_bytes()) else {
+        return Err(AllocError);
+    };
+    match judge_text(alloc, &plan, text.as_bytes()) {
+        Ok(sound) => Ok(sound),
+        Err(_) => Err(AllocError),
+    }
+}
+
+/// The machine of a text for `ONE_PLACE`.
+fn machine(alloc: Global, text: &str) -> Result<Machine, AllocError> {
+    Machine::new(alloc, one_place(alloc, text)?)
+}
+
+/// The bits that the output ports of a tile show, the first as bit 0.
+fn shown(machine: &Machine) -> u64 {
+    machine.outputs(5)
+        | (machine.outputs(6) << 1)
+        | (machine.outputs(7) << 2)
+        | (machine.outputs(8) << 3)
+        | (machine.outputs(9) << 4)
+        | (machine.outputs(10) << 5)
+}
+
+#[test]
+fn a_buffer_is_a_memory(rt: HostRuntime) -> Result<(), Fail> {
+    let rows = [
+        (ONE_PLACE, "  reg [37:0] Y14_ [0:1];\n"),
+        (THREE_PLACES, "  reg [37:0] Y14_ [0:3];\n"),
+    ];
+    for (content, line) in rows {
+        let text = compiled(&rt, content)?;
+        assert!(rt; text.as_str().contains(line), "{content}");
+        // There is no other one.
+        assert!(rt;
+            text.as_str().find("_ [0:") == text.as_str().rfind("_ [0:"),
+            "{content}"
+        );
+    }
+    Ok(())
+}
+
+#[test]
+fn first_words_of_memories_are_not_shown(rt: HostRuntime) -> Result<(), Fail> {
+    let text = compiled(&rt, ONE_PLACE)?;
+    let mut zeros = machine(rt.alloc(), text.as_str())?;
+    let mut ones = machine(rt.alloc(), text.as_str())?;
+    // The words of the text's one memory.
+    ones.put_mem(0, 0, 0, 0x3f_ffff_ffff);
+    ones.put_mem(0, 0, 1, 0x3f_ffff_ffff);
+    let mut got: u64 = 0;
+    for inputs in OFFERS {
+        assert_eq!(rt; shown(&ones), shown(&zeros));
+        if ones.outputs(7) & inputs[4] == 1 {
+            got = got.wrapping_mul(16).wrapping_add(ones.outputs(10));
+        }
+        zeros.edge(&inputs);
+        ones.edge(&inputs);
+    }
+    assert_eq!(rt; got, 0x123);
+    Ok(())
+}
+
+/// The bits of the numbers of a tile's input ports, the first port's first.
+fn bits_of(inputs: [u64; 5]) -> [bool; 67] {
+    let word = u128::from(inputs[0])
+        | (u128::from(inputs[1]) << 1)
+        | (u128::from(inputs[2]) << 33)
+        | (u128::from(inputs[3]) << 65)
+        | (u128::from(inputs[4]) << 66);
+    let mut bits = [false; 67];
+    for i in 0..67 {
+        bits[i] = (word >> i) & 1 == 1;
+    }
+    bits
+}
+
+/// The number of these bits, the first as bit 0.
+fn number_of(bits: [bool; 37]) -> u64 {
+    let mut number: u64 = 0;
+    for i in 0..37 {
+        if bits[i] {
+            number |= 1 << i;
+        }
+    }
+    number
+}
+
+/// Whether a form and a machine show the same in a cycle in which the input ports have these numbers. Both go on.
+fn agree(form: &mut AigRun, machine: &mut Machine, inputs: [u64; 5]) -> bool
+    requires inputs { form.now.form.inputs ≡ 67 }
+    requires outputs { length form.now.form.outputs ≡ 37 }
+    ensures { form.new.form ≡ form.old.form }
+{
+    let mut bits = [false; 37];
+    form.step(&bits_of(inputs), &mut bits);
+    let same = number_of(bits) == shown(machine);
+    machine.edge(&inputs);
+    same
+}
+
+#[test]
+fn a_form_runs_beside_its_text(rt: HostRuntime) -> Result<(), Fail> {
+    let alloc = rt.alloc();
+    let text = compiled(&rt, ONE_PLACE)?;
+    let aig = aig_of(alloc, &one_place(alloc, text.as_str())?)?;
+    assert_eq!(rt; aig.inputs, 67);
+    assert_eq!(rt; aig.outputs.len(), 37);
+    let mut form = AigRun::new(alloc, aig)?;
+    let mut machine = machine(alloc, text.as_str())?;
+    for inputs in OFFERS {
+        assert!(rt; agree(&mut form, &mut machine, inputs));
+    }
+    Ok(())
+}
+
+/// The last five numbers of a text's first line.
+fn counts(text: &[u8]) -> [u64; 5] {
+    let mut numbers: [u64; 5] = [0; 5];
+    for byte in text {
+        match *byte {
+            b'\n' => return numbers,
+            b' ' => numbers = [numbers[1], numbers[2], numbers[3], numbers[4], 0],
+            digit => {
+                numbers[4] = numbers[4]
+                    .wrapping_mul(10)
+                    .wrapping_add(u64::from(digit & 15))
+            }
+        }
+    }
+    numbers
+}
+
+#[test]
+fn a_form_has_the_ports_of_the_network(rt: HostRuntime) -> Result<(), Fail> {
+    let content = Some(ONE_TILE.as_bytes());
+    let (status, text, err) = run(&rt, "aiger d", content, None, &[], &[])?;
+    assert!(rt; status == Status::Good);
+    assert_eq!(rt; err.as_str(), "");
+    let [last, inputs, latches, outputs, gates] = counts(text.as_bytes());
+    assert_eq!(rt; inputs, 67);
+    assert_eq!(rt; outputs, 37);
+    assert_eq!(rt; last, latches.wrapping_add(gates).wrapping_add(67));
     Ok(())
 }
 
