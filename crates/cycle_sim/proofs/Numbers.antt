@@ -1,11 +1,12 @@
 -- Links by number, and what comes over them.
-use Rattle.std.proofs.Common.{◌≡◌, ◌≢◌, ℕ, zero, suc, ◌+◌, ◌*◌, ◌/◌, ◌%◌, ◌<◌, Bool, true, false, Option, List, length, get_or, set, refl, sym, ap, ◌∙◌, arith, mul_comm, ⊎_elim}
-use Rattle.std.specs.Prelude.{Some, None, ◌==◌, is_some, slice_get, if◌then◌else◌, pos, ◌-ℤ◌}
+use Rattle.std.proofs.Common.{◌≡◌, ◌≢◌, ℕ, zero, suc, ◌+◌, ◌*◌, ◌/◌, ◌%◌, ◌<◌, Bool, true, false, Option, List, [], ◌∷◌, ◌++◌, length, map, get_or, refl, sym, ap, ◌∙◌, arith, mul_comm, ⊎_elim}
+use Rattle.std.specs.Prelude.{Some, None, IfSome, ◌==◌, is_some, slice_get, if◌then◌else◌, pos, ◌-ℤ◌}
+use Rattle.std.specs.List.{range_with_len}
 use Rattle.std.proofs.Math.Nat.{mod-lt}
-use Rattle.std.proofs.lemmas.Nat.{mul-add-lt, div_below, div-mul-add, mod-mul-add, div-add-mod'}
+use Rattle.std.proofs.lemmas.Nat.{mul-add-lt, div_below, div-mul-add, mod-mul-add}
+use Rattle.std.proofs.lemmas.List.FromFn.{map-range_with_len_more, get_or-map-range_with_len, length-map-range_with_len}
 use Rattle.std.proofs.lemmas.Option.{get_or_from_slice_get}
 use Rattle.vc_partition.specs.Lanes.{lane}
-use Rattle.vc_partition.proofs.Cuts.{lane-written, lane-other, lanes-other}
 use Rattle.std.proofs.lemmas.Bool.Decides.{nat_tests, eqb_tells}
 use Rattle.noc_model.specs.declared.LinkFlit.{LinkFlit}
 use Rattle.noc_model.specs.declared.ways.Way.{Way}
@@ -18,6 +19,8 @@ use Rattle.noc_model.proofs.StateKept.{neighbour-inside}
 use Rattle.noc_model.proofs.Switched.{link-below}
 use Rattle.credit_links.specs.Rows.{last_place}
 use Rattle.router_core.specs.Pulses.{pulse_at}
+use Rattle.cycle_sim.specs.declared.near.Near.{Near}
+use Rattle.cycle_sim.specs.Near.{IsNear}
 use Rattle.cycle_sim.specs.Links.{row_of, arrival_from, arrival_at, pulses_of, credit_from, credit_at}
 
 pub number-below : (p : Plan) (m o : ℕ) → m < tiles p → o < ports p → m * ports p + o < tiles p * ports p
@@ -112,30 +115,32 @@ quotient-below k a b less = div_below k b a (positive-factor a b k less) less
 pub remainder-below : (k a b : ℕ) → k < a * b → k % b < b
 remainder-below k a b less = mod-lt k (positive-factor a b k less)
 
--- what was kept up to a pair, and for it
-pub kept-next : (b : ℕ) (v r : List (List (Option ℕ))) (x : Option ℕ) (k q i : ℕ) → q ≡ k / b → i ≡ k % b → q < length v → i < length (lane v q)
-    → x ≡ pulse_at r q i → (d port : ℕ) → port < b → (d * b + port < k → pulse_at v d port ≡ pulse_at r d port) → d * b + port < k + 1
-    → pulse_at (set v q (set (lane v q) i x)) d port ≡ pulse_at r d port
-kept-next b v r x k q i q_is i_is there inside is d port low before less = ⊎_elim
-    (λ same.
-    let d_is : d ≡ q = sym (div-mul-add d b port low) ∙ ap (λ j. j / b) same.1 ∙ sym q_is in
-    let port_is : port ≡ i = sym (mod-mul-add d b port low) ∙ ap (λ j. j % b) same.1 ∙ sym i_is in
-    ap (pulse_at (set v q (set (lane v q) i x)) d) port_is ∙ ap (λ e. pulse_at (set v q (set (lane v q) i x)) e i) d_is
-    ∙ lane-written v q i x None there inside ∙ is ∙ ap (pulse_at r q) (sym port_is) ∙ ap (λ e. pulse_at r e port) (sym d_is))
-    (λ other.
-    let apart = other.1 in
-    let earlier = before (grind (arith, less, apart)) in
-    ⊎_elim
-    (λ one.
-    let gap : port ≢ i = λ e. apart (ap (λ j. d * b + j) (e ∙ i_is) ∙ ap (λ j. j * b + k % b) (one.1 ∙ q_is) ∙ div-add-mod' k b) in
-    ap (λ e. pulse_at (set v q (set (lane v q) i x)) e port) one.1 ∙ lane-other v q i port x None there gap ∙ ap (λ e. pulse_at v e port) (sym one.1) ∙ earlier)
-    (λ two. ap (λ l. get_or l port None) (lanes-other v q d i x two.1) ∙ earlier)
-    (eqb_tells d q))
-    (eqb_tells (d * b + port) k)
-
-pub number-in : (d port b a : ℕ) → d < a → port < b → d * b + port < a * b
-number-in d port b a there inside = rw (mul_comm a b) (mul-add-lt d b port a there inside)
-
 pub some-there : (o : Option ℕ) → is_some o ≡ true → (m : ℕ) × (o ≡ Some m)
 some-there None e = absurd (cc e)
 some-there (Some m) e = (m, refl)
+
+-- ---- the table of neighbours
+
+abbrev end : Plan → ℕ → Option ℕ
+end p k = neighbour p (k / ports p) (k % ports p)
+
+pub near-length : (p : Plan) (near : Near) → IsNear p near → length near.ends.items ≡ tiles p * ports p
+near-length p near is = ap length is ∙ length-map-range_with_len (end p) 0 (tiles p * ports p)
+
+pub near-at : (p : Plan) (near : Near) (n port : ℕ) → IsNear p near → n < tiles p → port < ports p → get_or near.ends.items (n * ports p + port) None ≡ neighbour p n port
+near-at p near n port is inside low =
+    ap (λ xs. get_or xs (n * ports p + port) None) is
+    ∙ get_or-map-range_with_len (end p) 0 (tiles p * ports p) (n * ports p + port) (n * ports p + port) None (number-below p n port inside low) (omega arith)
+    ∙ ap (λ q. neighbour p q ((n * ports p + port) % ports p)) (div-mul-add n (ports p) port low)
+    ∙ ap (neighbour p n) (mod-mul-add n (ports p) port low)
+
+-- a neighbour is a tile
+pub near-inside : (p : Plan) (n port : ℕ) (o : Option ℕ) → IsSound p → n < tiles p → o ≡ neighbour p n port → IfSome o (λ m. m < tiles p)
+near-inside p n port None sound inside e = tt
+near-inside p n port (Some m) sound inside e = (link-ends p n port m sound inside (sym e)).0
+
+-- one link more
+pub ends-more : (p : Plan) (xs ys : List (Option ℕ)) (k : ℕ) (x : Option ℕ) → ys ≡ xs ++ x ∷ [] → xs ≡ map (end p) (range_with_len 0 k) → x ≡ end p k
+    → ys ≡ map (end p) (range_with_len 0 (k + 1))
+ends-more p xs ys k x pushed before is =
+    pushed ∙ ap (λ l. l ++ x ∷ []) before ∙ ap (λ o. map (end p) (range_with_len 0 k) ++ o ∷ []) is ∙ sym (map-range_with_len_more (end p) 0 k k (omega arith))

@@ -3,3 +3,4 @@ pub mod Links
 pub mod TileCycle
 pub mod Attached
 pub mod Asleep
+pub mod Near

@@ -10,6 +10,7 @@
 mod begin;
 mod cycles;
 mod links;
+mod near;
 mod net;
 mod pulses;
 mod seeing;

@@ -11,15 +11,26 @@ ghost use Rattle.credit_links.specs.Counts.{count_at};
 ghost use Rattle.router_core.specs.Buffers.{flits_at};
 ghost use Rattle.router_core.specs.Sizes.{HasPorts, IsMade};
 ghost use Rattle.router_core.specs.Shown.{Shows};
+ghost use Rattle.cycle_sim.specs.Near.{IsNear};
 ghost use Rattle.cycle_sim.specs.Links.{arrival_at, credit_at, pulses_of, arrived, received, returned, repaid};
 
+use crate::near::Near;
 use credit_links::Pipe;
 use noc_model::{Plan, Way};
 use router_core::Router;
 use vc_partition::Lanes;
 
 /// A flit that comes off the link to a port arrives there.
-fn receive_at(plan: &Plan, tile: u32, cycle: u32, rows: &[Pipe], port: u32, router: &mut Router)
+fn receive_at(
+    plan: &Plan,
+    near: &Near,
+    tile: u32,
+    cycle: u32,
+    rows: &[Pipe],
+    port: u32,
+    router: &mut Router,
+)
+    requires near { IsNear plan.now near.now }
     requires tile { tile < tiles plan.now }
     requires port { port < ports plan.now }
     requires rows { length rows.now ≡ tiles plan.now * ports plan.now }
@@ -34,7 +45,7 @@ fn receive_at(plan: &Plan, tile: u32, cycle: u32, rows: &[Pipe], port: u32, rout
         → Shows router.new plan.now d (arrived port (arrival_at plan.now d tile cycle rows.now port) s) }
 {
     plan.known();
-    if let Some(from) = plan.neighbour(tile, port) {
+    if let Some(from) = near.neighbour(plan, tile, port) {
         let back = Way::of_port(port).opposite().port();
         if let Some(x) = rows[(from * plan.ports() + back) as usize].last() {
             router.arrive(plan, router.arriving(port), port, x);
@@ -43,7 +54,15 @@ fn receive_at(plan: &Plan, tile: u32, cycle: u32, rows: &[Pipe], port: u32, rout
 }
 
 /// The flits that come off the links to a tile arrive there.
-pub(crate) fn receive(plan: &Plan, tile: u32, cycle: u32, rows: &[Pipe], router: &mut Router)
+pub(crate) fn receive(
+    plan: &Plan,
+    near: &Near,
+    tile: u32,
+    cycle: u32,
+    rows: &[Pipe],
+    router: &mut Router,
+)
+    requires near { IsNear plan.now near.now }
     requires tile { tile < tiles plan.now }
     requires rows { length rows.now ≡ tiles plan.now * ports plan.now }
     requires made { IsMade router.old plan.now }
@@ -57,7 +76,7 @@ pub(crate) fn receive(plan: &Plan, tile: u32, cycle: u32, rows: &[Pipe], router:
         → Shows router.new plan.now d (received (arrival_at plan.now d tile cycle rows.now) (ports plan.now) s) }
 {
     for port in 0..plan.ports() {
-        receive_at(plan, tile, cycle, rows, port, router);
+        receive_at(plan, near, tile, cycle, rows, port, router);
     }
 }
 
@@ -124,11 +143,13 @@ fn give_back_from(
 /// The credits of all domains come back by a port, if it has a link.
 fn give_back_by(
     plan: &Plan,
+    near: &Near,
     tile: u32,
     pulses: &[Lanes<Option<u32>>],
     port: u32,
     router: &mut Router,
 )
+    requires near { IsNear plan.now near.now }
     requires tile { tile < tiles plan.now }
     requires port { port < ports plan.now }
     requires pulses { length pulses.now ≡ tiles plan.now }
@@ -142,13 +163,20 @@ fn give_back_by(
     ensures shows { (d : ℕ) (s : Tile) → d < length plan.now.domains → Shows router.old plan.now d s
         → Shows router.new plan.now d (returned port (credit_at plan.now d tile pulses.now port) s) }
 {
-    if let Some(from) = plan.neighbour(tile, port) {
+    if let Some(from) = near.neighbour(plan, tile, port) {
         give_back_from(plan, tile, from, pulses, port, router);
     }
 }
 
 /// The credits of all domains come back to a tile.
-pub(crate) fn give_back(plan: &Plan, tile: u32, pulses: &[Lanes<Option<u32>>], router: &mut Router)
+pub(crate) fn give_back(
+    plan: &Plan,
+    near: &Near,
+    tile: u32,
+    pulses: &[Lanes<Option<u32>>],
+    router: &mut Router,
+)
+    requires near { IsNear plan.now near.now }
     requires tile { tile < tiles plan.now }
     requires pulses { length pulses.now ≡ tiles plan.now }
     requires pulse_ports { (m : ℕ) → m < tiles plan.now → HasPorts plan.now (pulses_of pulses.now m) }
@@ -162,6 +190,6 @@ pub(crate) fn give_back(plan: &Plan, tile: u32, pulses: &[Lanes<Option<u32>>], r
         → Shows router.new plan.now d (repaid (credit_at plan.now d tile pulses.now) (ports plan.now) s) }
 {
     for port in 0..plan.ports() {
-        give_back_by(plan, tile, pulses, port, router);
+        give_back_by(plan, near, tile, pulses, port, router);
     }
 }

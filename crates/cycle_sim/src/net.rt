@@ -17,6 +17,7 @@ ghost use Rattle.cycle_sim.specs.Links.{row_of};
 ghost use Rattle.cycle_sim.specs.Net.{Shows};
 
 use crate::begin::{outs_of, pulses_of, routers_of, rows_of};
+use crate::near::Near;
 use crate::pulses::keep_all;
 use crate::seeing::see_all;
 use crate::shift::shift_all;
@@ -44,6 +45,7 @@ pub struct Net {
     pulses: Vec<Lanes<Option<u32>>>,
     /// In a cycle, what each tile sends.
     outs: Vec<RouterOut>,
+    near: Near,
 }
 
 impl Model for Net {
@@ -53,12 +55,14 @@ impl Model for Net {
 
     ghost use Rattle.cycle_sim.specs.Net.{kept, IsWhole, HasScratch};
     ghost use Rattle.cycle_sim.specs.Asleep.{AreAsleep};
+    ghost use Rattle.cycle_sim.specs.Near.{IsNear};
 
     ghost view = { λ a. kept a.plan a.cycle a.routers.items a.rows.items };
 
     ghost invariant = { λ a. IsWhole (kept a.plan a.cycle a.routers.items a.rows.items)
         × HasScratch a.plan a.pulses.items a.outs.items
-        × AreAsleep a.plan a.routers.items a.rows.items a.pulses.items a.awake.items };
+        × AreAsleep a.plan a.routers.items a.rows.items a.pulses.items a.awake.items
+        × IsNear a.plan a.near };
 }
 
 impl Net {
@@ -78,6 +82,7 @@ impl Net {
         let awake = vec![in alloc; true; plan.tiles() as usize]?;
         let pulses = pulses_of(alloc, &plan)?;
         let outs = outs_of(alloc, &plan)?;
+        let near = Near::new(alloc, &plan)?;
         Ok(Net {
             plan,
             cycle: 0,
@@ -86,6 +91,7 @@ impl Net {
             awake,
             pulses,
             outs,
+            near,
         })
     }
 
@@ -172,6 +178,7 @@ impl Net {
         );
         step_tiles(
             &self.plan,
+            &self.near,
             self.cycle,
             &self.awake,
             &self.rows,

@@ -7,8 +7,10 @@ ghost use Rattle.router_core.specs.Parts.{Parts};
 ghost use Rattle.cycle_sim.specs.TileCycle.{AreAllPulses, MayStep, HasStepped};
 ghost use Rattle.cycle_sim.specs.Net.{IsRouterOf};
 ghost use Rattle.cycle_sim.specs.Asleep.{is_awake, HasSlept};
+ghost use Rattle.cycle_sim.specs.Near.{IsNear};
 
 use crate::links::{give_back, receive};
+use crate::near::Near;
 use credit_links::Pipe;
 use noc_model::Plan;
 use router_core::{Router, RouterOut};
@@ -18,6 +20,7 @@ use vc_partition::Lanes;
 /// pulses come back.
 fn step_tile(
     plan: &Plan,
+    near: &Near,
     tile: u32,
     cycle: u32,
     rows: &[Pipe],
@@ -25,6 +28,7 @@ fn step_tile(
     router: &mut Router,
     out: &mut RouterOut,
 )
+    requires near { IsNear plan.now near.now }
     requires tile { tile < tiles plan.now }
     requires rows { length rows.now ≡ tiles plan.now * ports plan.now }
     requires pulses { AreAllPulses plan.now pulses.now }
@@ -36,14 +40,15 @@ fn step_tile(
 {
     plan.known();
     router.advance(plan, out);
-    receive(plan, tile, cycle, rows, router);
-    give_back(plan, tile, pulses, router);
+    receive(plan, near, tile, cycle, rows, router);
+    give_back(plan, near, tile, pulses, router);
     router.tick();
 }
 
 /// One cycle of a tile, if it is awake. Else only the owners of its links are those of the next cycle.
 fn step_or_sleep(
     plan: &Plan,
+    near: &Near,
     tile: u32,
     cycle: u32,
     awake: bool,
@@ -52,6 +57,7 @@ fn step_or_sleep(
     router: &mut Router,
     out: &mut RouterOut,
 )
+    requires near { IsNear plan.now near.now }
     requires tile { tile < tiles plan.now }
     requires rows { length rows.now ≡ tiles plan.now * ports plan.now }
     requires pulses { AreAllPulses plan.now pulses.now }
@@ -65,7 +71,7 @@ fn step_or_sleep(
     ensures links { length out.new.links.items ≡ ports plan.now }
 {
     if awake {
-        step_tile(plan, tile, cycle, rows, pulses, router, out);
+        step_tile(plan, near, tile, cycle, rows, pulses, router, out);
     } else {
         router.tick();
     }
@@ -74,6 +80,7 @@ fn step_or_sleep(
 /// One cycle of the tiles that are awake. What each sends is put into `outs`.
 pub(crate) fn step_tiles(
     plan: &Plan,
+    near: &Near,
     cycle: u32,
     awake: &[bool],
     rows: &[Pipe],
@@ -81,6 +88,7 @@ pub(crate) fn step_tiles(
     routers: &mut Vec<Router>,
     outs: &mut Vec<RouterOut>,
 )
+    requires near { IsNear plan.now near.now }
     requires awake { length awake.now ≡ tiles plan.now }
     requires rows { length rows.now ≡ tiles plan.now * ports plan.now }
     requires pulses { AreAllPulses plan.now pulses.now }
@@ -106,6 +114,7 @@ pub(crate) fn step_tiles(
     for n in 0..plan.tiles() {
         step_or_sleep(
             plan,
+            near,
             n,
             cycle,
             awake[n as usize],

@@ -349,6 +349,7 @@ invariant_of-self g c =
       subst (λ xs. AreAsleep p xs next pulses c.sleep_all.new.awake.items) c.deref-11.ensures.value
           (subst (λ xs. AreAsleep p c.deref-11.result.now xs pulses c.sleep_all.new.awake.items) c.deref-12.ensures.value
           (subst (λ xs. AreAsleep p c.deref-11.result.now c.deref-12.result.now xs c.sleep_all.new.awake.items) c.deref-13.ensures.value c.sleep_all.ensures)),
+      c.self.invariant.3,
     )
 
 pub returns-clause-steps : goal.returns-clause-steps
