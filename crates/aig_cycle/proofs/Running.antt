@@ -12,13 +12,18 @@ use Rattle.vl_run.specs.declared.program.Store.{Store}
 use Rattle.vl_run.specs.declared.program.Link.{Link}
 use Rattle.vl_run.specs.Step.{ran, action_value, word_at}
 use Rattle.vl_run.specs.Program.{stored_in, linked}
-use Rattle.vl_run.proofs.Steps.{one-turn}
 use Rattle.vl_run.specs.State.{Code, settled_by, edged}
 use Rattle.aig_gates.specs.Memory as memory
 use Rattle.aig_cycle.specs.Wires.{numbers, rows, kept_as, IsWord, AreWords, AreRows, ArePlain, IsPlain}
 use Rattle.vl_run.specs.State.{Part}
 use Rattle.aig_cycle.specs.Steps.{linked_words, Wired, part_as, IsWired, AreWired}
 use Rattle.aig_cycle.proofs.Actions.{number-at, row-at, word-of, row-of}
+
+-- ---- one step more
+
+one-turn : (m : ℕ → ℕ → ℕ) (ss : List Step) (i : ℕ) (s : Step) (nets : List ℕ) → i < length ss → s ≡ get_or ss i s
+    → ran m (drop i ss) nets ≡ ran m (drop (i + 1) ss) (set nets s.to (action_value m (slice_index nets) s.action))
+one-turn m ss i s nets h is = at_drop_more (λ x. ran m x nets) ss i s h ∙ ap (λ (z : Step). ran m (z ∷ drop (i + 1) ss) nets) (sym is)
 
 -- ---- longer nets
 
