@@ -1,6 +1,6 @@
 #!/usr/bin/env bash
 # Runs a Verilog text under a trace by `surf replay`, and by Icarus Verilog and Verilator where they are installed, and
-# says whether they print the same reports, and how many cycles a second each ran.
+# says whether they print the same reports, and the processor time of each run.
 # Usage: tools/compare_text.sh DESCRIPTION TEXT TRACE CYCLES [SURF]
 # SURF is the program, `surf` of this checkout where it isn't named. Files go to a folder that is removed at the end.
 # Other tools begin with memories of unknown bits, `surf` with 0: a text that shows a memory's first content may differ.
@@ -18,7 +18,7 @@ optimize=${OPTIMIZE:--O0}
 folder=$(mktemp -d)
 trap 'rm -rf "$folder"' EXIT
 differ=0
-TIMEFORMAT=%R
+TIMEFORMAT=%U
 
 # The test bench: the words and holds of the trace at the ports of the text's last module.
 bench() {
@@ -124,7 +124,7 @@ run() {
   local tool=$1 out=$2 seconds status=0
   shift 2
   seconds=$({ time "$@" >"$out" 2>"$folder/said"; } 2>&1) || status=$?
-  echo "$tool: status $status, $cycles cycles in $seconds s"
+  echo "$tool: status $status, $cycles cycles in $seconds s of a processor"
 }
 
 # Compares the report of the tool that is named with that of `surf`.
