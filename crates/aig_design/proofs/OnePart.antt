@@ -19,7 +19,7 @@ use Rattle.vl_run.specs.declared.program.Memory as code_memory
 use Rattle.vl_run.specs.Step.{word_at}
 use Rattle.vl_run.specs.Program.{registers_of, memories_of}
 use Rattle.vl_run.specs.Rows.{Rows}
-use Rattle.vl_run.specs.Start.{HasRoom, IsWithin, empty_memory}
+use Rattle.vl_run.specs.Start.{AreInside, HasRoom, IsWithin, empty_memory}
 use Rattle.vl_run.specs.State.{Code, Part}
 use Rattle.vl_run.specs.Stands.{StandsIn}
 use Rattle.vl_run.specs.Fresh.{IsFresh}
@@ -192,6 +192,7 @@ module _ (t : Name → ℕ) (l : Leaf) (js : List Join) (names : LeafNames l) (x
         settle = subst (λ k. AllByRecursion (IsWithin k) x.code.settle) (sym net-long) fresh.start.room.settle;
         next = subst (λ k. AllByRecursion (IsWithin k) x.code.next) (sym net-long) fresh.start.room.next;
         moves = subst (λ k. AllByRecursion (IsWithin k) x.code.moves) (sym net-long) fresh.start.room.moves;
+        inside = subst (λ k. AreInside k x.code) (sym net-long) fresh.start.room.inside;
       });
       small = small;
       nets = λ n net free. net-stands n net;

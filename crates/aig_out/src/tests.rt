@@ -1,3 +1,5 @@
+//! Tests: a form written as text.
+
 ghost use Rattle.std.specs.Prelude.{◌≡◌, length, IfOk};
 ghost use Rattle.aig_model.specs.Form.{IsForm};
 ghost use Rattle.aig_out.specs.Forms.{form_of};

@@ -45,6 +45,7 @@ pub struct Net {
     pulses: Vec<Lanes<Option<u32>>>,
     /// In a cycle, what each tile sends.
     outs: Vec<RouterOut>,
+    /// The neighbours of each tile.
     near: Near,
 }
 

@@ -1,8 +1,7 @@
 //! The credit pulses of the last cycle, kept while the tiles make those of this one.
 
-ghost use Rattle.std.specs.Prelude.{◌≡◌, ◌≢◌, ◌<◌, ℕ, true, false, length, Some, slice_get};
+ghost use Rattle.std.specs.Prelude.{◌≡◌, ◌<◌, ℕ, true, false, length, Some, slice_get};
 ghost use Rattle.noc_model.specs.Plan.{tiles, ports};
-ghost use Rattle.vc_partition.specs.Lanes.{lane};
 ghost use Rattle.router_core.specs.Parts.{Parts};
 ghost use Rattle.router_core.specs.Pulses.{pulse_at};
 ghost use Rattle.router_core.specs.Sizes.{HasPorts, IsMade};
@@ -13,20 +12,6 @@ use noc_model::Plan;
 use router_core::Router;
 use vc_partition::Lanes;
 
-/// Keeps the pulses of domain `d` of a tile.
-fn keep_of(plan: &Plan, d: u32, router: &Router, kept: &mut Lanes<Option<u32>>)
-    requires made { IsMade router.now plan.now }
-    requires domain { d < length plan.now.domains }
-    requires ports { HasPorts plan.now kept.old }
-    ensures ports { HasPorts plan.now kept.new }
-    ensures same { (port : ℕ) → port < ports plan.now → pulse_at kept.new d port ≡ pulse_at router.now.pulses d port }
-    ensures others { (e : ℕ) → e ≢ d → lane kept.new e ≡ lane kept.old e }
-{
-    for port in 0..plan.ports() {
-        kept.set(d, port, router.pulse(d, port));
-    }
-}
-
 /// Keeps the pulses of a tile.
 fn keep(plan: &Plan, router: &Router, kept: &mut Lanes<Option<u32>>)
     requires made { IsMade router.now plan.now }
@@ -35,10 +20,8 @@ fn keep(plan: &Plan, router: &Router, kept: &mut Lanes<Option<u32>>)
     ensures same { (d port : ℕ) → d < length plan.now.domains → port < ports plan.now
         → pulse_at kept.new d port ≡ pulse_at router.now.pulses d port }
 {
-    plan.known();
-    for d in 0..plan.domains() {
-        keep_of(plan, d, router, kept);
-    }
+    let _ = plan;
+    kept.copy_from(router.pulses());
 }
 
 /// Keeps the pulses of a tile, if it is awake.

@@ -63,6 +63,7 @@ word_part p n d o = if is_some (neighbour p n o)
 abbrev pub filled_buffers : Plan → ℕ → ℕ → ℕ → ℕ → List Group
 filled_buffers p n d port m = each_group (link_channels p d) (λ c. filled_buffer p n d port m c ∷ [])
 
+-- the buffers of a port, where a link comes in there
 abbrev pub buffer_part : Plan → ℕ → ℕ → ℕ → List Group
 buffer_part p n d port = to_neighbour (filled_buffers p n d port) (neighbour p n port)
 
@@ -82,5 +83,6 @@ first_groups p n d =
     ∷ ends_group p net_names d ∷ idle_group (leaf_names.idle d) (net_names.filled d) (net_names.ends d) (high p d)
     ∷ []))
 
+-- what a domain has behind its switch: what is sent, what is chosen, its buffers, its attachment
 abbrev pub last_groups : Plan → ℕ → ℕ → List Group
 last_groups p n d = its_flits p n d ++ (its_words p n d ++ (its_buffers p n d ++ hosted_part p n d))

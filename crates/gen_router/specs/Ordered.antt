@@ -12,9 +12,11 @@ use Rattle.leaf_tie.specs.Outs.{local_out_group}
 use Rattle.leaf_tie.specs.Whole.{each_group, slot_groups, shared_groups, before_switch, behind_switch, channel_groups, sent_groups, link_buffers, local_groups, domain_groups}
 use Rattle.leaf_parts.specs.Entries.{its_names, its_size}
 
+-- the slot counters of a tile
 abbrev pub its_slots : Plan → ℕ → List Group
 its_slots p n = slot_groups p n leaf_names (slot_high p)
 
+-- what all domains share: the rows of its links
 abbrev pub its_links : Plan → ℕ → List Group
 its_links p n = shared_groups p n leaf_names net_names (port_names n) (leaf_sizes p) (dest_bits p) (flit_bits p)
     (channel_bits p)
@@ -23,6 +25,7 @@ its_links p n = shared_groups p n leaf_names net_names (port_names n) (leaf_size
 abbrev pub its_outputs : Plan → ℕ → ℕ → List Group
 its_outputs p n d = before_switch p n d leaf_names net_names (port_names n) (leaf_sizes p) (dest_bits p)
 
+-- of a domain: the flits that leave its buffers
 abbrev pub its_flits : Plan → ℕ → ℕ → List Group
 its_flits p n d = behind_switch p n d leaf_names net_names (dest_bits p)
 
@@ -40,6 +43,7 @@ abbrev pub filled_buffer : Plan → ℕ → ℕ → ℕ → ℕ → ℕ → Grou
 filled_buffer p n d port m c = buffer_group (leaf_names.buffer d port c) (leaf_sizes p) (link_push p leaf_names
     (port_names n) (flit_bits p) (channel_bits p) d port m c) (pop_of p net_names d port c)
 
+-- the buffers of a domain that links fill
 abbrev pub its_buffers : Plan → ℕ → ℕ → List Group
 its_buffers p n d = link_buffers p n d leaf_names net_names (port_names n) (leaf_sizes p) (flit_bits p) (channel_bits p)
 

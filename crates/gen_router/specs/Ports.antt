@@ -17,6 +17,7 @@ with_ports l ps = record { name = l.name; ports = l.ports ++ ps; items = l.items
 abbrev pub ins : List ℕ → ℕ → ℕ → ℕ → Port
 ins head h n k = record { output = false; high = h; name = name_with head (n ∷ k ∷ []) }
 
+-- a port out of the tile, of h + 1 bits
 abbrev pub outs : List ℕ → ℕ → ℕ → ℕ → Port
 outs head h n k = record { output = true; high = h; name = name_with head (n ∷ k ∷ []) }
 

@@ -15,6 +15,7 @@ mover_name d port k = own (net_tag d (at_local port 13 10) port) k
 abbrev pub its_buffer : Plan → ℕ → ℕ → ℕ → List Item
 its_buffer p d port c = fifo_items (buffer_names d port c) (leaf_sizes p).bh (leaf_sizes p).lh (leaf_sizes p).wh
 
+-- the buffer with its two wires: what pushes it, and whether a flit leaves it
 abbrev pub buffer_heads : Plan → ℕ → ℕ → ℕ → List Item
 buffer_heads p d port c = wire 0 (buffer_names d port c).push ∷ wire 0 (buffer_names d port c).pop
     ∷ its_buffer p d port c

@@ -14,9 +14,11 @@ its_switch d = switch_names leaf_names net_names d
 abbrev pub output_heads : Plan → ℕ → ℕ → ℕ → List Item
 output_heads p n d o = lone_heads (its_switch d) (ports p - 1) (has_port p n d) o
 
+-- what it chooses
 abbrev pub output_nets : Plan → ℕ → ℕ → ℕ → List Item
 output_nets p n d o = lone_nets (its_switch d) (ports p - 1) (has_port p n d) o
 
+-- what moves its pointer
 abbrev pub output_moves : Plan → ℕ → ℕ → ℕ → List Item
 output_moves p n d o = lone_moves (its_switch d) (ports p - 1) (has_port p n d) o
 

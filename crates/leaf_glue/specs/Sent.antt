@@ -31,6 +31,7 @@ gated_port p n d o port = gated_words (34 + dest_bits p) (λ k. bit (leaf_names.
 abbrev pub gated_channel : Plan → ℕ → ℕ → ℕ → Expr
 gated_channel p d o k = gated_words (channel_bits p) (λ c. net (net_names.on d o c)) (in_bits (channel_bits p)) k
 
+-- whether a flit goes by channel k of output o
 abbrev pub on_net : ℕ → ℕ → ℕ → Expr
 on_net d o k = net (net_names.on d o k)
 

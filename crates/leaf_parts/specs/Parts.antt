@@ -14,10 +14,11 @@ use Rattle.leaf_tie.specs.Tie.{alloc_size}
 
 -- ---- counters
 
--- how many credits there are after an edge, where one comes back, and where none does: a flit that goes out takes one
+-- how many credits there are after an edge where one comes back: a flit that goes out takes one
 abbrev pub more_credits : Name → Expr → ℕ → Expr
 more_credits count on h = choose on (net count) (two Add (net count) (in_bits (h + 1) 1))
 
+-- and where none comes back
 abbrev pub fewer_credits : Name → Expr → ℕ → Expr
 fewer_credits count on h = choose on (two Sub (net count) (in_bits (h + 1) 1)) (net count)
 
@@ -73,6 +74,7 @@ own_moves p d o =
 abbrev pub choice_heads : Plan → ℕ → ℕ → List Item
 choice_heads p d o = reg (ports p - 1) (switch_rotate d o).pointer ∷ []
 
+-- the pointer of an input port
 abbrev pub turn_heads : Plan → ℕ → ℕ → List Item
 turn_heads p d port = reg (link_channels p d - 1) (turn_rotate d port).pointer ∷ []
 
@@ -80,6 +82,7 @@ turn_heads p d port = reg (link_channels p d - 1) (turn_rotate d port).pointer �
 abbrev pub choice_moves : Plan → ℕ → ℕ → List Item
 choice_moves p d o = pointer_moves (switch_rotate d o).pointer (switch_rotate d o).winner (ports p - 1)
 
+-- and what moves the pointer of an input port
 abbrev pub turn_moves : Plan → ℕ → ℕ → List Item
 turn_moves p d port = pointer_moves (turn_rotate d port).pointer (net_names.granted d port) (link_channels p d - 1)
 
@@ -87,6 +90,7 @@ turn_moves p d port = pointer_moves (turn_rotate d port).pointer (net_names.gran
 abbrev pub ready_net : ℕ → ℕ → Expr
 ready_net d o = net (net_names.ready d o)
 
+-- the winner of a port's turn
 abbrev pub turn_winner : ℕ → ℕ → Expr
 turn_winner d port = net (turn_rotate d port).winner
 

@@ -59,6 +59,7 @@ register_tag d stage port = 5120 + 64 * d + 8 * stage + port
 -- ---- nets: stage 0 before the switch, 1 allocation, 2 to 7 the switch, 8 flits, 9 links, 10 buffers filled from
 -- links, 11 and 12 the attachment, 13 buffers that it fills
 
+-- the names of a leaf's nets
 abbrev pub net_names : NetNames
 net_names = record {
   filled = λ d. own (net_tag d 0 0) 0;
@@ -87,9 +88,11 @@ net_names = record {
 
 -- ---- registers: stage 0 allocation, 1 and 2 the switch, 3 idle places, 4 credits and pulses, 5 the attachment
 
+-- the counter of a slot, and whether domain e owns it
 abbrev pub slot_names : ℕ → SlotNames
 slot_names k = record { count = own (slot_tag k) 0; owns = λ e. own (owns_tag k) e }
 
+-- the allocator of a domain at an output
 abbrev pub alloc_names : ℕ → ℕ → AllocNames
 alloc_names d o = record {
   waiting = own (register_tag d 0 o) 0;
@@ -109,6 +112,7 @@ alloc_names d o = record {
   freed = own (net_tag d 8 o) 0;
 }
 
+-- the round-robin choice of an output
 abbrev pub switch_rotate : ℕ → ℕ → RotateNames
 switch_rotate d o = record {
   request = own (net_tag d 5 o) 1;
@@ -117,6 +121,7 @@ switch_rotate d o = record {
   winner = own (net_tag d 5 o) 3;
 }
 
+-- the round-robin choice of an input port
 abbrev pub turn_rotate : ℕ → ℕ → RotateNames
 turn_rotate d port = record {
   request = own (net_tag d 3 port) 0;
@@ -139,6 +144,7 @@ buffer_names d port c = record {
   pop = own (net_tag d (at_local port 13 10) port) (2 * c + 1);
 }
 
+-- the names of a leaf's registers
 abbrev pub leaf_names : LeafNames
 leaf_names = record {
   slot = slot_names;
@@ -201,10 +207,11 @@ abbrev pub credit_domain_below : Plan → ℕ → ℕ → ℕ
 credit_domain_below p zero r = 0
 credit_domain_below p (suc k) r = if nat_le (credit_base p k) r then k else credit_domain_below p k r
 
--- the domain and the channel of a credit number
+-- the domain of a credit number
 abbrev pub credit_domain : Plan → ℕ → ℕ
 credit_domain p r = credit_domain_below p (length p.domains) r
 
+-- its channel among the domain's credits
 abbrev pub credit_channel : Plan → ℕ → ℕ
 credit_channel p r = r - credit_base p (credit_domain p r)
 
@@ -248,6 +255,7 @@ out_groups p n = each_group (ports p) (λ o. if is_some (neighbour p n o) then l
 
 -- ---- the leaf
 
+-- the leaf of tile n: its ports, the items of its groups
 abbrev pub leaf_module : Plan → ℕ → Leaf
 leaf_module p n = record {
   name = leaf_name n;

@@ -124,9 +124,11 @@ lone_choice a o = record {
 abbrev pub lone_heads : SwitchNames → ℕ → (ℕ → Bool) → ℕ → List Item
 lone_heads a last there o = if there o then (rotate_group (lone_choice a o) last).heads else []
 
+-- what it chooses, where it is there
 abbrev pub lone_nets : SwitchNames → ℕ → (ℕ → Bool) → ℕ → List Item
 lone_nets a last there o = if there o then (rotate_group (lone_choice a o) last).nets else []
 
+-- what moves its pointer, where it is there
 abbrev pub lone_moves : SwitchNames → ℕ → (ℕ → Bool) → ℕ → List Item
 lone_moves a last there o = if there o then (rotate_group (lone_choice a o) last).moves else []
 

@@ -30,6 +30,7 @@ abbrev pub link_uses : Plan → ℕ → ℕ → ℕ → Option ℕ → Bool
 link_uses p n k o None = false
 link_uses p n k o (Some m) = (leaving_slot p n o == k) || (arriving_slot p m (opposite o) == k)
 
+-- whether any link at the tile uses slot k
 abbrev pub uses_slot : Plan → ℕ → ℕ → Bool
 uses_slot p n k = any_upto (ports p - 1) (λ o. link_uses p n k o (neighbour p n o))
 

@@ -1,11 +1,10 @@
--- What a tile shows in a cycle, which depends on its state alone.
+-- What an attachment shows in a cycle, which depends on its tile's state alone.
 use Rattle.std.specs.Prelude.{ℕ, Bool, Option}
-use Rattle.noc_model.specs.declared.LinkFlit.{LinkFlit}
 use Rattle.noc_model.specs.declared.Ejected.{Ejected}
 use Rattle.noc_model.specs.Plan.{Plan}
 use Rattle.noc_model.specs.Tile.{Tile}
 use Rattle.noc_model.specs.Step.{is_open}
-use Rattle.noc_model.specs.Run.{Input, last_place, state_after}
+use Rattle.noc_model.specs.Run.{Input, state_after}
 use Rattle.noc_model.specs.Events.{ejected_of}
 
 -- what an attachment shows: whether it takes a word, whether one was dropped, and the flit that is given out
@@ -14,20 +13,9 @@ pub record AttachOut : Type 0 where
   pub dropped : Bool
   pub ejected : Option Ejected
 
--- what a tile shows: of each output the last place of the leaving link, of each input the credit pulse, and its
--- attachment
-pub record TileOut : Type 0 where
-  pub last : ℕ → Option LinkFlit
-  pub pulse : ℕ → ℕ → Bool
-  pub attachment : AttachOut
-
 -- what the attachment shows in this state of its tile
 abbrev pub attach_out : Plan → Tile → AttachOut
 attach_out p s = record { ready = is_open p s; dropped = s.dropped; ejected = ejected_of s.ejected }
-
--- what the tile shows
-abbrev pub tile_out : Plan → Tile → TileOut
-tile_out p s = record { last = last_place p s; pulse = s.pulse; attachment = attach_out p s }
 
 -- what the domain's attachments show in a run, by cycle and by tile
 abbrev pub outs : Plan → ℕ → (ℕ → Input) → ℕ → ℕ → AttachOut

@@ -1,7 +1,8 @@
 -- What a router shows after an attachment took a word and ejected a flit.
-use Rattle.std.proofs.Common.{◌≡◌, ◌≢◌, ℕ, zero, suc, ◌<◌, Bool, true, false, List, [], ◌++◌, length, get_or-set_same, get_or-set_other, length-set, refl, sym, ap, ◌∙◌, arith, append-nil, ⊎_elim, Option, Some, None}
+use Rattle.std.proofs.Common.{◌≡◌, ◌≢◌, ℕ, zero, suc, ◌<◌, Bool, true, false, List, [], ◌++◌, length, get_or, set, get_or-set_same, get_or-set_other, length-set, refl, sym, ap, ◌∙◌, arith, append-nil, ⊎_elim, Option, Some, None}
 use Rattle.std.specs.Prelude.{option_to_list, IfSome, if◌then◌else◌}
 use Rattle.std.proofs.lemmas.Bool.{ltb-true}
+use Rattle.std.proofs.lemmas.List.{get_or_read, set-get_or}
 use Rattle.std.proofs.lemmas.Bool.Decides.{eqb_tells}
 use Rattle.noc_model.specs.declared.Flit.{Flit}
 use Rattle.noc_model.specs.declared.Offer.{Offer}
@@ -15,8 +16,9 @@ use Rattle.noc_model.proofs.Inputs.{place-one, place-below, input-within}
 use Rattle.tile_iface.specs.Iface.{taken}
 use Rattle.flit_pool.specs.Lists.{Lists, list_at}
 use Rattle.router_core.specs.declared.attachments.Attachment.{Attachment}
-use Rattle.router_core.specs.Attachments.{start_attachment, attachment_at}
-use Rattle.router_core.specs.Attach.{attachment_after, entered, attached_parts, attached}
+use Rattle.router_core.specs.declared.attachments.Told.{Told}
+use Rattle.router_core.specs.Attachments.{start_attachment, attachment_at, nothing_told, told_at}
+use Rattle.router_core.specs.Attach.{IsStill, attachment_after, entered, attached_parts, attached}
 use Rattle.router_core.specs.Buffers.{lists_at, flits_at}
 use Rattle.router_core.specs.Parts.{Parts}
 use Rattle.router_core.specs.Sizes.{HasBuffers, IsMade}
@@ -158,3 +160,29 @@ module _ (r : Parts) (p : Plan) (d : ℕ) (word : Option Offer) (eject : Option 
         dropped = ap (λ (x : Attachment). x.dropped) same ∙ shown.dropped;
         ejected = ap (λ (x : Attachment). x.ejected) same ∙ shown.ejected;
       }
+
+-- the attachment that was read
+pub read-is : (r : Parts) (items : List Attachment) (d : ℕ) (x : Attachment) → items ≡ r.attachments → d < length r.attachments → x ≡ get_or items d x → x ≡ attachment_at r.attachments d
+read-is r items d x same there is =
+    get_or_read items _ _ (let a = ap length same in omega (arith, a, there)) is start_attachment ∙ ap (λ xs. attachment_at xs d) same
+
+-- what the outside does
+pub heard-is : (r : Parts) (items : List Told) (d : ℕ) (x : Told) → items ≡ r.told → d < length r.told → x ≡ get_or items d x → x ≡ told_at r.told d
+heard-is r items d x same there is =
+    get_or_read items _ _ (let a = ap length same in omega (arith, a, there)) is nothing_told ∙ ap (λ xs. told_at xs d) same
+
+-- a router whose attachment is still
+pub attached-still : (r : Parts) (p : Plan) (d : ℕ) (word : Option Offer) (eject : Option Flit) (hears : Bool)
+    → IsStill (attachment_at r.attachments d) word eject hears → r ≡ attached_parts r p d word eject hears
+attached-still r p d word eject hears still =
+    let a = attachment_at r.attachments d in
+    let same : a ≡ attachment_after p d a None None hears = λ i. record {
+      packet = a.packet;
+      current = a.current;
+      dropped = still.no_drop i;
+      ejected = sym still.unheard i;
+    } in
+    let back : r.attachments ≡ set r.attachments d (attachment_after p d a None None hears) =
+    sym (set-get_or r.attachments d start_attachment) ∙ ap (set r.attachments d) same in
+    (λ i. let q : Parts = record r { attachments = back i } in q)
+    ∙ ap (λ w. attached_parts r p d w None hears) (sym still.no_word) ∙ ap (λ e. attached_parts r p d word e hears) (sym still.no_flit)

@@ -1,65 +1,54 @@
 -- What a router shows at the beginning of a cycle.
-use Rattle.std.proofs.Common.{◌≡◌, ◌≢◌, ℕ, ◌+◌, ◌<◌, ◌≤◌, Bool, true, false, List, length, get_or, set, refl, ap, ◌∙◌, arith, ⊎_elim, Option, None}
-use Rattle.std.specs.Prelude.{nat_lt}
-use Rattle.std.proofs.lemmas.Bool.Decides.{nat_tests, eqb_tells}
-use Rattle.std.proofs.lemmas.List.{get_or_past}
+use Rattle.std.proofs.Common.{◌≡◌, ◌≢◌, ℕ, ◌<◌, List, [], length, replicate, get_or, get_or-set_same, get_or-set_other, set, refl, sym, ap, ◌∙◌, arith, ⊎_elim, Option, None}
+use Rattle.std.proofs.lemmas.Bool.Decides.{eqb_tells}
+use Rattle.std.proofs.lemmas.List.{length-replicate}
 use Rattle.noc_model.specs.Plan.{Plan, ports}
 use Rattle.noc_model.specs.Tile.{Tile}
 use Rattle.vc_partition.specs.Lanes.{lane}
-use Rattle.vc_partition.proofs.Cuts.{lane-written, lane-other, lanes-other}
-use Rattle.slot_switch.specs.Switch.{Switch, ask_at, with_ask}
+use Rattle.slot_switch.specs.Switch.{Switch, without_asks}
+use Rattle.slot_switch.proofs.Asks.{filled}
 use Rattle.router_core.specs.Pulses.{is_pulse}
 use Rattle.router_core.specs.Parts.{Parts}
-use Rattle.router_core.specs.Ready.{ClearBelow, silent}
+use Rattle.router_core.specs.Ready.{IsCleared, silent}
 use Rattle.router_core.specs.Sizes.{HasSwitch, HasPorts, IsMade}
 use Rattle.router_core.specs.Shown.{Shows}
-use Rattle.router_core.proofs.Frames.{has-ports, pulses-set}
+use Rattle.router_core.proofs.Frames.{has-ports-lane}
 
-pub clear-none : (p : Plan) (d : ℕ) (x : Switch) (u : List (List (Option ℕ))) → HasSwitch p x → HasPorts p u → ClearBelow 0 p d x x u u
-clear-none p d x u has ports = record {
-  has = has;
-  pulses = ports;
-  turns = refl;
-  switches = refl;
-  asked = λ port below. absurd (omega (arith, below));
-  left = λ port below. absurd (omega (arith, below));
-  others = λ e apart. refl;
-  kept = λ are. are;
-}
+read-filled : {T : Type 0} (v : List (List T)) (d n k : ℕ) (x : T) → d < length v
+    → get_or (lane (set v d (replicate n x)) d) k x ≡ x
+read-filled v d n k x there = ap (λ l. get_or l k x) (get_or-set_same v d (replicate n x) [] there) ∙ filled x n k
 
--- a place that is written, or one below it
-written : {T : Type 0} (v : List (List T)) (d k q : ℕ) (x y : T) → d < length v → k < length (lane v d) → q < k + 1 → (q < k → get_or (lane v d) q y ≡ x) → get_or (lane (set v d (set (lane v d) k x)) d) q y ≡ x
-written v d k q x y there inside below before = ⊎_elim
-    (λ z. ap (λ j. get_or (lane (set v d (set (lane v d) k x)) d) j y) z.1 ∙ lane-written v d k x y there inside)
-    (λ z. lane-other v d k q x y there z.1 ∙ before (let a = z.1 in omega (arith, a, below)))
-    (eqb_tells q k)
-
-pub clear-more : (k : ℕ) (p : Plan) (d : ℕ) (x y : Switch) (u v : List (List (Option ℕ))) → d < length p.domains → k < ports p → ClearBelow k p d x y u v
-    → ClearBelow (k + 1) p d x (with_ask y d k None) u (set v d (set (lane v d) k None))
-clear-more k p d x y u v there k_in before = record {
-  has = record {
-    port_count = before.has.port_count;
-    asks = has-ports p y.asks d k None there before.has.asks;
-    turns = before.has.turns;
-    switches = before.has.switches;
-  };
-  pulses = has-ports p v d k None there before.pulses;
-  turns = before.turns;
-  switches = before.switches;
-  asked = λ port below. written y.asks d k port None None (let a = before.has.asks.domains in omega (arith, a, there)) (let a = before.has.asks.ports d there in omega (arith, a, k_in)) below
-      (before.asked port);
-  left = λ port below. written v d k port None None (let a = before.pulses.domains in omega (arith, a, there)) (let a = before.pulses.ports d there in omega (arith, a, k_in)) below
-      (before.left port);
-  others = λ e apart. lanes-other v d e k None apart ∙ before.others e apart;
-  kept = λ are. pulses-set p v d k None there k_in before.pulses (λ c none. absurd (cc none)) (before.kept are);
-}
+pub are-cleared : (p : Plan) (d : ℕ) (x : Switch) (u : List (List (Option ℕ))) → d < length p.domains → HasSwitch p x → HasPorts p u
+    → IsCleared p d x (without_asks x d) u (set u d (replicate (length (lane u d)) None))
+are-cleared p d x u there has ports =
+    let asks_in : d < length x.asks = let a = has.asks.domains in omega (arith, a, there) in
+    let pulses_in : d < length u = let a = ports.domains in omega (arith, a, there) in
+    let n : ℕ = length (lane u d) in
+    record {
+      has = record {
+        port_count = has.port_count;
+        asks = has-ports-lane p x.asks d (replicate x.ports None) there (length-replicate x.ports None ∙ has.port_count) has.asks;
+        turns = has.turns;
+        switches = has.switches;
+      };
+      pulses = has-ports-lane p u d (replicate n None) there (length-replicate n None ∙ ports.ports d there) ports;
+      turns = refl;
+      switches = refl;
+      asked = λ port. read-filled x.asks d x.ports port None asks_in;
+      left = λ port. read-filled u d n port None pulses_in;
+      others = λ e apart. get_or-set_other u d e (replicate n None) [] apart;
+      kept = λ are e port c e_in is. ⊎_elim
+          (λ here. absurd (cc (sym (ap (λ i. get_or (lane (set u d (replicate n None)) i) port None) here.1 ∙ read-filled u d n port None pulses_in) ∙ is)))
+          (λ away. are e port c e_in (sym (ap (λ l. get_or l port None) (get_or-set_other u d e (replicate n None) [] away.1)) ∙ is))
+          (eqb_tells e d);
+    }
 
 -- ---- the router
 
 abbrev pub clear_parts : Parts → Switch → List (List (Option ℕ)) → Parts
 clear_parts r y v = record r { switch = y; pulses = v }
 
-module _ (p : Plan) (d : ℕ) (r : Parts) (y : Switch) (v : List (List (Option ℕ))) (clear : ClearBelow (ports p) p d r.switch y r.pulses v) where
+module _ (p : Plan) (d : ℕ) (r : Parts) (y : Switch) (v : List (List (Option ℕ))) (clear : IsCleared p d r.switch y r.pulses v) where
   pub clear-made : IsMade r p → IsMade (clear_parts r y v) p
   clear-made made = record {
     tile = made.tile;
@@ -74,19 +63,11 @@ module _ (p : Plan) (d : ℕ) (r : Parts) (y : Switch) (v : List (List (Option �
     wheel = made.wheel;
   }
 
-  pub clear-quiet : d < length p.domains → (port : ℕ) → ask_at y d port ≡ None
-  clear-quiet there port = go (nat_lt port (ports p)) refl
-    where
-      go : (b : Bool) → nat_lt port (ports p) ≡ b → ask_at y d port ≡ None
-      go true e = clear.asked port (let below : port < ports p = grind (arith, nat_tests, e) in below)
-      go false e = get_or_past (lane y.asks d) port None
-          (let past : ports p ≤ port = grind (arith, nat_tests, e) in let a = clear.has.asks.ports d there in omega (arith, a, past))
-
   pub clear-own : (s : Tile) → Shows r p d s → Shows (clear_parts r y v) p d (silent s)
   clear-own s shown = record {
     queue = shown.queue;
     stage = shown.stage;
-    pulse = λ port c port_in c_in. ap (λ o. is_pulse o c) (clear.left port port_in);
+    pulse = λ port c port_in c_in. ap (λ o. is_pulse o c) (clear.left port);
     held = shown.held;
     credits = shown.credits;
     allocation = shown.allocation;

@@ -1,7 +1,8 @@
 -- What one write changes, and what stays.
-use Rattle.std.proofs.Common.{◌≡◌, ◌≢◌, ℕ, ◌<◌, true, false, List, [], length, set, get_or-set_same, get_or-set_other, length-set, sym, ap, ◌∙◌, arith, ⊎_elim, ◌⊎◌, inl, inr, Option, Some, None, get_or}
+use Rattle.std.proofs.Common.{◌≡◌, ◌≢◌, ℕ, ◌<◌, true, false, List, [], length, map, set, get_or-set_same, get_or-set_other, length-set, sym, ap, ◌∙◌, arith, ⊎_elim, ◌⊎◌, inl, inr, Option, Some, None, get_or}
 use Rattle.std.specs.Prelude.{◌==◌, ◌&&◌}
 use Rattle.std.proofs.lemmas.Bool.Decides.{eqb_tells}
+use Rattle.std.proofs.lemmas.List.{ext_get_or, get_or-map, length-map}
 use Rattle.noc_model.specs.declared.Flit.{Flit}
 use Rattle.noc_model.specs.Plan.{Plan, ports, link_channels}
 use Rattle.noc_model.specs.Inputs.{place}
@@ -84,13 +85,32 @@ has-inputs p v d k x there h =
       inputs = λ e below. lane-count v d e k x inside ∙ h.inputs e below;
     }
 
-pub has-ports : {T : Type 0} (p : Plan) (v : List (List T)) (d k : ℕ) (x : T) → d < length p.domains → HasPorts p v → HasPorts p (set v d (set (lane v d) k x))
-has-ports p v d k x there h =
+-- another lane of as many places
+pub has-ports-lane : {T : Type 0} (p : Plan) (v : List (List T)) (d : ℕ) (ys : List T) → d < length p.domains → length ys ≡ ports p → HasPorts p v → HasPorts p (set v d ys)
+has-ports-lane p v d ys there long h =
     let inside : d < length v = let a = h.domains in omega (arith, a, there) in
     record {
-      domains = length-set v d _ ∙ h.domains;
-      ports = λ e below. lane-count v d e k x inside ∙ h.ports e below;
+      domains = length-set v d ys ∙ h.domains;
+      ports = λ e below. ⊎_elim
+          (λ w. ap (λ i. length (lane (set v d ys) i)) w.1 ∙ ap length (get_or-set_same v d ys [] inside) ∙ long)
+          (λ w. ap length (get_or-set_other v d e ys [] w.1) ∙ h.ports e below)
+          (eqb_tells e d);
     }
+
+pub has-ports : {T : Type 0} (p : Plan) (v : List (List T)) (d k : ℕ) (x : T) → d < length p.domains → HasPorts p v → HasPorts p (set v d (set (lane v d) k x))
+has-ports p v d k x there h = has-ports-lane p v d (set (lane v d) k x) there (length-set (lane v d) k x ∙ h.ports d there) h
+
+-- lanes with a place for each port have the same lengths
+pub same-lengths : {T : Type 0} (p : Plan) (u v : List (List T)) → HasPorts p u → HasPorts p v → map length u ≡ map length v
+same-lengths p u v us vs =
+    let domains = us.domains in
+    let domains' = vs.domains in
+    let long = length-map u length in
+    ext_get_or 0 (map length u) (map length v) (long ∙ us.domains ∙ sym vs.domains ∙ sym (length-map v length))
+    (λ i less.
+    let there : i < length p.domains = omega (arith, less, long, domains) in
+    get_or-map length u i [] 0 (omega (arith, there, domains)) ∙ us.ports i there ∙ sym (vs.ports i there)
+    ∙ sym (get_or-map length v i [] 0 (omega (arith, there, domains'))))
 
 -- a channel that there is, or none
 pub pulses-set : (p : Plan) (v : List (List (Option ℕ))) (d k : ℕ) (x : Option ℕ) → d < length p.domains → k < ports p → HasPorts p v → ((c : ℕ) → x ≡ Some c → c < link_channels p d)

@@ -1,5 +1,5 @@
 -- Which channels may send, and what the input ports of a tile ask for.
-use Rattle.std.specs.Prelude.{◌≡◌, ◌≢◌, ℕ, ◌<◌, ◌≤◌, ◌&&◌, nat_lt, Option, Some, None, option_and_then, if◌then◌else◌, ℤ, pos}
+use Rattle.std.specs.Prelude.{◌≡◌, ◌≢◌, ℕ, ◌<◌, ◌&&◌, nat_lt, Bool, true, false, List, length, slice_index_or, Option, Some, None, option_and_then, if◌then◌else◌, ℤ, pos}
 use Rattle.noc_model.specs.declared.Grant.{Grant}
 use Rattle.noc_model.specs.Plan.{Plan, ports, in_channels}
 use Rattle.noc_model.specs.Inputs.{place, input_port, input_channel}
@@ -11,7 +11,6 @@ use Rattle.route_stage.specs.Routed.{stage_at}
 use Rattle.vc_partition.specs.Lanes.{lane}
 use Rattle.slot_switch.specs.Switch.{Switch, ask_at, turn_at, better_ask, with_ask}
 use Rattle.wave_sched.specs.Wheels.{Stands}
-use Rattle.router_core.specs.declared.asks.Span.{Span}
 use Rattle.router_core.specs.Attachments.{told_at, outside}
 use Rattle.router_core.specs.Parts.{Parts}
 use Rattle.router_core.specs.Sizes.{HasSwitch}
@@ -48,7 +47,7 @@ pub record AsksBelow (k : ℕ) (p : Plan) (d : ℕ) (r : Parts) (x : Switch) : T
   pub asks : (s : Tile) (t port : ℕ) → Shows r p d s → Stands r.wheel p r.tile t → port < ports p
       → ask_at x d port ≡ asked_below k p d r.tile (pos t) s (outside (told_at r.told d)) port
 
--- the input ports of domain d that are below n ask for outputs of the span alone
-abbrev pub AsksWithin : ℕ → Switch → ℕ → Span → Type 0
-AsksWithin n x d span = (port : ℕ) (g : Grant) → port < n → ask_at x d port ≡ Some g
-    → (span.first ≤ g.out) × (g.out ≤ span.last)
+-- the input ports of domain d that are below n ask for outputs of which the list has a mark, true or false
+abbrev pub AsksWithin : ℕ → Switch → ℕ → List Bool → Type 0
+AsksWithin n x d outputs = (port : ℕ) (g : Grant) → port < n → ask_at x d port ≡ Some g → g.out < length outputs
+    → slice_index_or outputs g.out false ≡ true

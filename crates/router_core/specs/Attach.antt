@@ -1,6 +1,6 @@
 -- What becomes of an attachment in a cycle: a word that is taken enters the buffer of the local input, and a flit is
 -- ejected.
-use Rattle.std.specs.Prelude.{ℕ, Bool, List, [], ◌∷◌, ◌++◌, ◌==◌, Option, None, Some, option_to_list, slice_set, if◌then◌else◌}
+use Rattle.std.specs.Prelude.{◌≡◌, ℕ, Bool, false, List, [], ◌∷◌, ◌++◌, ◌==◌, Option, None, Some, option_to_list, slice_set, if◌then◌else◌}
 use Rattle.noc_model.specs.declared.Flit.{Flit}
 use Rattle.noc_model.specs.declared.Offer.{Offer}
 use Rattle.noc_model.specs.Plan.{Plan, at_local}
@@ -21,6 +21,13 @@ attachment_after p d a word eject hears = record {
   dropped = is_dropped p d a.packet word;
   ejected = next_ejected (with_channel 0 eject) hears a.ejected;
 }
+
+-- nothing becomes of the attachment: no word was taken, no flit ejected, no drop pulse ends, and no flit is heard
+pub record IsStill (a : Attachment) (word : Option Offer) (eject : Option Flit) (hears : Bool) : Type 0 where
+  pub no_word : word ≡ None
+  pub no_flit : eject ≡ None
+  pub no_drop : a.dropped ≡ false
+  pub unheard : next_ejected None hears a.ejected ≡ a.ejected
 
 -- the buffers where this flit entered, if there is one
 abbrev pub entered : List Lists → ℕ → ℕ → Option Flit → List Lists

@@ -15,14 +15,14 @@ use Rattle.router_core.specs.Parts.{Parts}
 use Rattle.router_core.specs.Sizes.{HasSwitch, HasPorts, IsMade}
 use Rattle.router_core.specs.Shown.{Shows}
 
--- the input ports of domain d below k ask for nothing any more, and have no pulse
-pub record ClearBelow (k : ℕ) (p : Plan) (d : ℕ) (x y : Switch) (u v : List (List (Option ℕ))) : Type 0 where
+-- the input ports of domain d ask for nothing any more, and have no pulse
+pub record IsCleared (p : Plan) (d : ℕ) (x y : Switch) (u v : List (List (Option ℕ))) : Type 0 where
   pub has : HasSwitch p y
   pub pulses : HasPorts p v
   pub turns : y.turns ≡ x.turns
   pub switches : y.switches ≡ x.switches
-  pub asked : (port : ℕ) → port < k → ask_at y d port ≡ None
-  pub left : (port : ℕ) → port < k → pulse_at v d port ≡ None
+  pub asked : (port : ℕ) → ask_at y d port ≡ None
+  pub left : (port : ℕ) → pulse_at v d port ≡ None
   pub others : (e : ℕ) → e ≢ d → lane v e ≡ lane u e
   pub kept : ArePulses p u → ArePulses p v
 

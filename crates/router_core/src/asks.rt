@@ -1,10 +1,9 @@
 //! What the input ports of a tile ask for.
 
-ghost use Rattle.std.specs.Prelude.{◌≡◌, ◌<◌, ◌≤◌, length, IfSome};
+ghost use Rattle.std.specs.Prelude.{◌≡◌, ◌<◌, ℕ, length, false, true, slice_index_or, IfSome};
 ghost use Rattle.noc_model.specs.Step.{grant_at};
-ghost use Rattle.noc_model.specs.Plan.{ports};
 ghost use Rattle.router_core.specs.Asks.{asking};
-ghost use Rattle.router_core.specs.Ready.{ClearBelow};
+ghost use Rattle.router_core.specs.Ready.{IsCleared};
 ghost use Rattle.router_core.specs.Sizes.{HasPorts, HasSwitch};
 
 use noc_model::Plan;
@@ -22,32 +21,18 @@ pub(crate) fn grant_at(channel: u32, stage: Stage) -> Option<Grant>
     }
 }
 
-/// The outputs from the first to the last: none where the last is below the first.
-#[derive(Clone, Copy)]
-pub(crate) struct Span {
-    pub(crate) first: u32,
-    pub(crate) last: u32,
-}
-
-/// The span that has this output too.
-fn with_output(span: Span, out: u32) -> Span
-    ensures from { (result.first ≤ span.first) × (span.last ≤ result.last) }
-    ensures has { (result.first ≤ out) × (out ≤ result.last) }
+/// Marks the output that is asked for, if anything is.
+pub(crate) fn mark(outputs: &mut [bool], asked: Option<Grant>)
+    ensures count { length outputs.new ≡ length outputs.old }
+    ensures kept { (o : ℕ) → slice_index_or outputs.old o false ≡ true → slice_index_or outputs.new o false ≡ true }
+    ensures has { IfSome asked (λ grant. grant.out < length outputs.old
+        → slice_index_or outputs.new grant.out false ≡ true) }
 {
-    Span {
-        first: if out < span.first { out } else { span.first },
-        last: if span.last < out { out } else { span.last },
-    }
-}
-
-/// The span that has the output of what is asked for too, if it is anything.
-pub(crate) fn with_asked(span: Span, asked: Option<Grant>) -> Span
-    ensures from { (result.first ≤ span.first) × (span.last ≤ result.last) }
-    ensures has { IfSome asked (λ grant. (result.first ≤ grant.out) × (grant.out ≤ result.last)) }
-{
-    match asked {
-        Some(grant) => with_output(span, grant.out),
-        None => span,
+    if let Some(grant) = asked {
+        let out = grant.out as usize;
+        if out < outputs.len() {
+            outputs[out] = true;
+        }
     }
 }
 
@@ -73,10 +58,9 @@ pub(crate) fn clear_ports(
     requires domain { d < length plan.now.domains }
     requires switch { HasSwitch plan.now switch.old }
     requires pulses { HasPorts plan.now pulses.old }
-    ensures { ClearBelow (ports plan.now) plan.now d switch.old switch.new pulses.old pulses.new }
+    ensures { IsCleared plan.now d switch.old switch.new pulses.old pulses.new }
 {
-    for port in 0..plan.ports() {
-        switch.clear(d, port);
-        pulses.set(d, port, None);
-    }
+    let _ = plan;
+    switch.clear_all(d);
+    pulses.fill(d, None);
 }

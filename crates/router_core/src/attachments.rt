@@ -1,10 +1,10 @@
 //! The attachments of a tile.
 
-ghost use Rattle.std.specs.Prelude.{◌≡◌, ◌<◌, length, replicate, IfOk};
+ghost use Rattle.std.specs.Prelude.{◌≡◌, ◌<◌, length, replicate, true, IfOk};
 ghost use Rattle.noc_model.specs.Plan.{channels};
 ghost use Rattle.noc_model.specs.Step.{next_ejected, with_channel};
 ghost use Rattle.tile_iface.specs.Iface.{taken};
-ghost use Rattle.router_core.specs.Attach.{attachment_after};
+ghost use Rattle.router_core.specs.Attach.{attachment_after, IsStill};
 ghost use Rattle.router_core.specs.Attachments.{start_attachment, nothing_told};
 
 use flit_word::{Flit, Offer};
@@ -95,4 +95,20 @@ pub(crate) fn taken(ready: bool, offer: Option<Offer>) -> Option<Offer>
     ensures { result ≡ taken ready offer }
 {
     if ready { offer } else { None }
+}
+
+/// Whether an attachment is as before after a cycle in which it took this word, if there is one, and ejected this flit, if
+/// there is one.
+pub(crate) fn stays(
+    attachment: Attachment,
+    word: Option<Offer>,
+    eject: Option<Flit>,
+    hears: bool,
+) -> bool
+    ensures { result ≡ true → IsStill attachment word eject hears }
+{
+    word.is_none()
+        && eject.is_none()
+        && !attachment.dropped
+        && (attachment.ejected.is_none() || !hears)
 }

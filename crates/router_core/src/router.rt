@@ -34,9 +34,9 @@ ghost use Rattle.router_core.specs.Pulses.{ArePulses, no_pulses, pulse_at};
 ghost use Rattle.router_core.specs.Sizes.{HasBuffers, IsMade};
 ghost use Rattle.router_core.specs.Shown.{Shows, with_flit, with_credit};
 
-use crate::asks::{Span, ask, clear_ports, grant_at, with_asked};
+use crate::asks::{ask, clear_ports, grant_at, mark};
 use crate::attachments::{
-    Attachment, Told, attachment_after, nothing_told, start_attachments, taken,
+    Attachment, Told, attachment_after, nothing_told, start_attachments, stays, taken,
 };
 use crate::buffers::Buffers;
 use crate::heads::{give_channels, has_head, is_busy, route_heads, want_heads};
@@ -270,35 +270,25 @@ impl Router {
         clear_ports(plan, d, &mut self.switch, &mut self.pulses);
     }
 
-    /// Whether a head of domain `d` waits at the input at place `k`.
-    fn has_head(&self, d: u32, k: u32) -> bool
+    /// Whether a head of domain `d` waits at the input at place `k`, if none was found before.
+    fn finds_head(&self, d: u32, k: u32, found: bool) -> bool
         requires domain { d < length self.now.buffers }
         requires place { k < length (lists_at self.now.buffers d).lists }
         requires stages { d < length self.now.stages }
         requires stage { k < length (lane self.now.stages d) }
-        ensures { result ≡ has_head (stage_at self.now.stages d k) (flits_at self.now.buffers d k) }
-    {
-        has_head(self.buffers.len(d, k), *self.stages.at(d, k))
-    }
-
-    /// Whether a head of domain `d` waits at any of its inputs.
-    fn has_heads(&self, plan: &Plan, d: u32) -> bool
-        requires made { IsMade self.now plan.now }
-        requires domain { d < length plan.now.domains }
-        ensures { result ≡ false → (k : ℕ) → k < input_count plan.now d
+        ensures before { result ≡ false → found ≡ false }
+        ensures here { result ≡ false
             → has_head (stage_at self.now.stages d k) (flits_at self.now.buffers d k) ≡ false }
     {
-        for k in 0..plan.ports() * plan.link_channels(d) {
-            if self.has_head(d, k) {
-                return true;
-            }
-        }
-        false
+        found || has_head(self.buffers.len(d, k), *self.stages.at(d, k))
     }
 
-    /// Places the heads of domain `d`, if any waits: a packet whose head has come to the front of an idle channel gets its
-    /// route, and of the packets that wait for an output the round-robin choice gets the least free channel of its class.
-    fn place_heads(&mut self, plan: &Plan, d: u32)
+    /// Places the heads of domain `d`, if any may wait: a packet whose head has come to the front of an idle channel gets
+    /// its route, and of the packets that wait for an output the round-robin choice gets the least free channel of its
+    /// class.
+    fn place_heads(&mut self, plan: &Plan, d: u32, waits: bool)
+        requires waits { waits ≡ false → (k : ℕ) → k < input_count plan.now d
+            → has_head (stage_at self.old.stages d k) (flits_at self.old.buffers d k) ≡ false }
         requires made { IsMade self.old plan.now }
         requires domain { d < length plan.now.domains }
         requires dest { FrontsGo plan.now self.old.buffers d }
@@ -311,7 +301,7 @@ impl Router {
         ensures made { IsMade self.new plan.now }
         ensures quiet { (o : ℕ) → o < ports plan.now → best_at self.new.allocator o ≡ None }
     {
-        if self.has_heads(plan, d) {
+        if waits {
             self.place_waiting(plan, d);
         }
     }
@@ -403,8 +393,8 @@ impl Router {
     }
 
     /// All inputs of domain `d` that may send are made known to the switch: each input port asks for what the
-    /// definition's input port asks for in this cycle.
-    fn ask_all(&mut self, plan: &Plan, d: u32)
+    /// definition's input port asks for in this cycle. Answers whether a head waits at any of the inputs.
+    fn ask_all(&mut self, plan: &Plan, d: u32) -> bool
         requires made { IsMade self.old plan.now }
         requires domain { d < length plan.now.domains }
         requires outs { HaveOutputs plan.now d self.old }
@@ -414,13 +404,18 @@ impl Router {
         ensures asks { (s : Tile) (t port : ℕ) → Shows self.old plan.now d s
             → Stands self.old.wheel plan.now self.old.tile t → port < ports plan.now → ask_at self.new.switch d port
             ≡ asked plan.now d self.old.tile (pos t) s (outside (told_at self.old.told d)) port }
+        ensures heads { result ≡ false → (k : ℕ) → k < input_count plan.now d
+            → has_head (stage_at self.old.stages d k) (flits_at self.old.buffers d k) ≡ false }
         ensures shows { (e : ℕ) (s : Tile) → Shows self.old plan.now e s → Shows self.new plan.now e s }
         ensures made { IsMade self.new plan.now }
     {
+        let mut waits = false;
         for k in 0..plan.ports() * plan.link_channels(d) {
+            waits = self.finds_head(d, k, waits);
             let grant = self.request(plan, d, k);
             ask(&mut self.switch, d, k / plan.link_channels(d), grant);
         }
+        waits
     }
 
     /// The first flit of a channel of domain `d` goes through the switch by a grant: its slot of the buffer is free, a
@@ -452,18 +447,17 @@ impl Router {
         with_channel(grant.to, flit)
     }
 
-    /// An output of domain `d` picks one of the input ports that ask for it, and sends its flit. Only outputs of the span
-    /// are asked for.
-    fn send(&mut self, plan: &Plan, d: u32, out: u32, asked: Span) -> Option<LinkFlit>
+    /// An output of domain `d` picks one of the input ports that ask for it, and sends its flit, if any asks.
+    fn send(&mut self, plan: &Plan, d: u32, out: u32, asked: bool) -> Option<LinkFlit>
         requires made { IsMade self.old plan.now }
         requires domain { d < length plan.now.domains }
         requires output { out < ports plan.now }
         requires pass { IfSome (granted_in self.old.switch d out) (λ x. CanPass plan.now d self.old x) }
-        requires span { AsksWithin (ports plan.now) self.old.switch d asked }
+        requires asked { asked ≡ false → granted_in self.old.switch d out ≡ None }
         ensures flit { result ≡ sent_by self.old plan.now d (granted_in self.old.switch d out) }
         ensures value { self.new ≡ sent_parts self.old plan.now d out (granted_in self.old.switch d out) }
     {
-        if asked.first <= out && out <= asked.last {
+        if asked {
             self.send_chosen(plan, d, out)
         } else {
             None
@@ -485,20 +479,16 @@ impl Router {
         }
     }
 
-    /// A span of the outputs that the input ports of domain `d` ask for.
-    fn asked_outputs(&self, plan: &Plan, d: u32) -> Span
+    /// Marks the outputs that the input ports of domain `d` ask for.
+    fn asked_outputs(&self, plan: &Plan, d: u32, outputs: &mut [bool])
         requires made { IsMade self.now plan.now }
         requires domain { d < length plan.now.domains }
-        ensures { AsksWithin (ports plan.now) self.now.switch d result }
+        ensures asks { AsksWithin (ports plan.now) self.now.switch d outputs.new }
+        ensures count { length outputs.new ≡ length outputs.old }
     {
-        let mut span = Span {
-            first: plan.ports(),
-            last: 0,
-        };
         for port in 0..plan.ports() {
-            span = with_asked(span, self.switch.asked(d, port));
+            mark(outputs, self.switch.asked(d, port));
         }
-        span
     }
 
     /// Each output of domain `d` sends the flit that the definition sends there: it takes the place of what was in
@@ -510,9 +500,23 @@ impl Router {
         requires can { CanSend plan.now d self.old }
         ensures { SendsBelow (ports plan.now) plan.now d self.old self.new links.old links.new }
     {
-        let asked = self.asked_outputs(plan, d);
+        let mut outputs = [false; 7];
+        self.asked_outputs(plan, d, &mut outputs);
+        self.send_asked(plan, d, &outputs, links);
+    }
+
+    /// Each output of domain `d` sends its flit, as in `send_all`: only those that are marked are asked for.
+    fn send_asked(&mut self, plan: &Plan, d: u32, outputs: &[bool], links: &mut [Option<LinkFlit>])
+        requires made { IsMade self.old plan.now }
+        requires domain { d < length plan.now.domains }
+        requires outputs { length outputs.now ≡ 7 }
+        requires asks { AsksWithin (ports plan.now) self.old.switch d outputs.now }
+        requires links { length links.old ≡ ports plan.now }
+        requires can { CanSend plan.now d self.old }
+        ensures { SendsBelow (ports plan.now) plan.now d self.old self.new links.old links.new }
+    {
         for out in 0..plan.ports() {
-            let flit = self.send(plan, d, out, asked);
+            let flit = self.send(plan, d, out, outputs[out as usize]);
             lay(links, out, flit);
         }
     }
@@ -547,8 +551,8 @@ impl Router {
         ensures links { length links.new ≡ length links.old }
     {
         self.clear(plan, d);
-        self.ask_all(plan, d);
-        self.place_heads(plan, d);
+        let waits = self.ask_all(plan, d);
+        self.place_heads(plan, d, waits);
         self.send_all(plan, d, links);
     }
 
@@ -629,6 +633,13 @@ impl Router {
         ensures { result ≡ pulse_at self.now.pulses d port }
     {
         *self.pulses.at(d, port)
+    }
+
+    /// The channels that flits left in the last cycle, by domain and input port.
+    pub fn pulses(&self) -> &Lanes<Option<u32>>
+        ensures { result.now ≡ self.now.pulses }
+    {
+        &self.pulses
     }
 
     /// The domain of a flit that arrives now by a port, which has a link.
@@ -774,9 +785,42 @@ impl Router {
         self.attach(plan, d, ready, eject);
     }
 
+    /// Whether the attachment of domain `d` stays as it is: it takes no word, ejects no flit and gives up none, and has no
+    /// drop pulse.
+    fn is_at_rest(&self, d: u32, ready: bool, eject: Option<Flit>) -> bool
+        requires told { d < length self.now.told }
+        requires domain { d < length self.now.attachments }
+        ensures { result ≡ true → (p : PlanValue) → self.now
+            ≡ attached_parts self.now p d (taken ready (told_at self.now.told d).offer) eject
+            (told_at self.now.told d).hears }
+    {
+        let told = self.told[d as usize];
+        let attachment = self.attachments[d as usize];
+        stays(attachment, taken(ready, told.offer), eject, told.hears)
+    }
+
     /// The attachment of domain `d` takes the word that is offered, if it was ready for one, and ejects a flit, if there
     /// is one.
     fn attach(&mut self, plan: &Plan, d: u32, ready: bool, eject: Option<Flit>)
+        requires made { IsMade self.old plan.now }
+        requires domain { d < length plan.now.domains }
+        requires room { ready ≡ true → is_ready_packet (attachment_at self.old.attachments d).packet
+            (length (flits_at self.old.buffers d (place plan.now d 0 (attachment_at self.old.attachments d).current)))
+            plan.now.buffer ≡ true }
+        ensures value { self.new ≡ attached_parts self.old plan.now d (taken ready (told_at self.old.told d).offer) eject
+            (told_at self.old.told d).hears }
+        ensures own { (s : Tile) → Shows self.old plan.now d s → Shows self.new plan.now d
+            (attached plan.now d s (taken ready (told_at self.old.told d).offer) eject (told_at self.old.told d).hears) }
+        ensures others { (e : ℕ) (s : Tile) → e ≢ d → Shows self.old plan.now e s → Shows self.new plan.now e s }
+        ensures made { IsMade self.new plan.now }
+    {
+        if !self.is_at_rest(d, ready, eject) {
+            self.attach_some(plan, d, ready, eject);
+        }
+    }
+
+    /// The attachment of domain `d` goes a cycle on, as in `attach`.
+    fn attach_some(&mut self, plan: &Plan, d: u32, ready: bool, eject: Option<Flit>)
         requires made { IsMade self.old plan.now }
         requires domain { d < length plan.now.domains }
         requires room { ready ≡ true → is_ready_packet (attachment_at self.old.attachments d).packet

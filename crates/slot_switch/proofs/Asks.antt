@@ -21,16 +21,17 @@ pub map-lanes : {T : Type 0} (f : ℕ → ℕ) (x : T) (xs : List ℕ)
 map-lanes f x [] = refl
 map-lanes f x (y ∷ ys) = ap (λ zs. replicate (f y) x ∷ zs) (map-lanes f x ys)
 
+-- a list with one value everywhere is read so, also past its end
+pub filled : {T : Type 0} (x : T) (n j : ℕ) → get_or (replicate n x) j x ≡ x
+filled x zero j = refl
+filled x (suc n) zero = refl
+filled x (suc n) (suc j) = filled x n j
+
 -- where each place of the lanes has the same value, each is read so, also where there is none
 all-filled : {T : Type 0} (f : ℕ → ℕ) (x : T) (xs : List ℕ) (d k : ℕ)
     → get_or (lane (map (λ d. replicate (f d) x) xs) d) k x ≡ x
 all-filled f x [] d k = refl
-all-filled f x (y ∷ ys) zero k = filled (f y) k
-  where
-    filled : (n j : ℕ) → get_or (replicate n x) j x ≡ x
-    filled zero j = refl
-    filled (suc n) zero = refl
-    filled (suc n) (suc j) = filled n j
+all-filled f x (y ∷ ys) zero k = filled x (f y) k
 all-filled f x (y ∷ ys) (suc d) k = all-filled f x ys d k
 
 module _ (p : Plan) where

@@ -1,12 +1,13 @@
 -- A round-robin choice that is made from one number after the other, upwards.
-use Rattle.std.proofs.Common.{◌≡◌, ◌≢◌, ℕ, ◌+◌, ◌<◌, ◌≤◌, Bool, true, false, refl, sym, ◌∙◌, ap, arith, ⊎_elim}
-use Rattle.std.specs.Prelude.{Option, Some, None, nat_lt, ◌==◌, ◌&&◌, ◌||◌, if◌then◌else◌}
+use Rattle.std.proofs.Common.{◌≡◌, ◌≢◌, ℕ, zero, suc, ◌+◌, ◌<◌, ◌≤◌, Bool, true, false, refl, sym, ◌∙◌, ap, arith, ⊎_elim}
+use Rattle.std.specs.Prelude.{Option, Some, None, nat_le, nat_lt, ◌==◌, ◌&&◌, ◌||◌, if◌then◌else◌}
+use Rattle.std.specs.Option.{option_or}
 use Rattle.std.proofs.lemmas.Bool.{cases_eq}
 use Rattle.std.proofs.lemmas.Bool.Decides.{nat_tests}
-use Rattle.noc_model.specs.Pick.{pick}
+use Rattle.noc_model.specs.Pick.{least, number_if, pick}
 use Rattle.noc_model.proofs.Least.{pick-member, pick-same}
-use Rattle.vc_partition.specs.Picks.{better, with_member}
-use Rattle.vc_partition.proofs.Picks.{pick-insert}
+use Rattle.vc_partition.specs.Picks.{better, with_member, from_on}
+use Rattle.vc_partition.proofs.Picks.{least-none, pick-insert}
 
 -- the members below m
 abbrev pub below : ℕ → (ℕ → Bool) → ℕ → Bool
@@ -71,3 +72,31 @@ pick-start n set pointer = go (pick n (below 0 set) pointer) refl
 pub pick-end : (n : ℕ) (set : ℕ → Bool) (pointer m : ℕ) → n ≤ m → pick n (below m set) pointer ≡ pick n set pointer
 pick-end n set pointer m all = pick-same n (below m set) set pointer pointer
     (λ k there. let t : nat_lt k m ≡ true = grind (arith, nat_tests) in ap (λ b. b && set k) t) refl
+
+-- where no number below n is a member, there is no least one
+pub least-empty : (n : ℕ) (set : ℕ → Bool) → ((k : ℕ) → k < n → set k ≡ false) → least n set ≡ None
+least-empty zero set none = refl
+least-empty (suc n) set none =
+    ap (λ o. option_or o (number_if (set n) n)) (least-empty n set (λ k less. none k (omega (arith, less))))
+    ∙ ap (λ b. option_or None (number_if b n)) (none n (omega arith))
+
+-- none is below the pointer
+pub none-before : (from : ℕ) (set : ℕ → Bool) → least from (from_on from set) ≡ None
+none-before from set =
+    least-empty from (from_on from set)
+    (λ k less. let late : nat_le from k ≡ false = grind (arith, nat_tests, less) in ap (λ b. b && set k) late)
+
+pub none-fewer : (m n : ℕ) (set : ℕ → Bool) → m ≤ n → least n set ≡ None → least m set ≡ None
+none-fewer m n set few none = least-empty m set (λ k less. least-none n set k none (omega (arith, few, less)))
+
+-- one number more that is no member
+pub none-more : (n from : ℕ) (set : ℕ → Bool) → set n ≡ false → least n (from_on from set) ≡ None
+    → least (n + 1) (from_on from set) ≡ None
+none-more n from set here before =
+    let next : n + 1 ≡ suc n = omega arith in
+    ap (λ k. least k (from_on from set)) next
+    ∙ ap (λ o. option_or o (number_if (nat_le from n && set n) n)) before ∙ ap (λ b. option_or None (number_if b n)) (never (nat_le from n) here)
+  where
+    never : (a : Bool) → set n ≡ false → (a && set n) ≡ false
+    never true e = e
+    never false e = refl

@@ -38,6 +38,10 @@ better_ask pointer (Some b) g = if comes_first pointer g.channel b.channel then 
 abbrev pub with_ask : Switch → ℕ → ℕ → Option Grant → Switch
 with_ask x d port g = record x { asks = slice_set x.asks d (slice_set (lane x.asks d) port g) }
 
+-- no input port of domain d asks for anything; all else stays
+abbrev pub without_asks : Switch → ℕ → Switch
+without_asks x d = record x { asks = slice_set x.asks d (replicate x.ports None) }
+
 -- another pointer of an input port; all else stays
 abbrev pub with_turn : Switch → ℕ → ℕ → ℕ → Switch
 with_turn x d port k = record x { turns = slice_set x.turns d (slice_set (lane x.turns d) port k) }

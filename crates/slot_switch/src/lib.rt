@@ -14,7 +14,7 @@ ghost use Rattle.noc_model.specs.Pick.{least};
 ghost use Rattle.noc_model.specs.Step.{asks_for};
 ghost use Rattle.noc_model.specs.Tile.{start_tile};
 ghost use Rattle.vc_partition.specs.Picks.{from_on};
-ghost use Rattle.slot_switch.specs.Switch.{ask_at, turn_at, switch_at, better_ask, with_ask, chosen_in, granted_to, granted_in, moved, start_of, IsSwitch};
+ghost use Rattle.slot_switch.specs.Switch.{ask_at, turn_at, switch_at, better_ask, with_ask, without_asks, chosen_in, granted_to, granted_in, moved, start_of, IsSwitch};
 ghost use Rattle.slot_switch.specs.Shown.{IsFor, Keeps};
 
 pub mod laws;
@@ -138,6 +138,14 @@ impl SlotSwitch {
         self.put(d, port, None);
     }
 
+    /// No input port of domain `d` asks for anything any more.
+    pub fn clear_all(&mut self, d: u32)
+        requires { d < length self.old.asks }
+        ensures { self.new ≡ without_asks self.old d }
+    {
+        self.asks.fill(d, None);
+    }
+
     /// Puts what an input port asks for.
     fn put(&mut self, d: u32, port: u32, grant: Option<Grant>)
         requires domain { d < length self.old.asks }
@@ -164,8 +172,8 @@ impl SlotSwitch {
             ≡ least self.now.ports (from_on from (λ port. asks_for (ask_at self.now d port) out)) }
         ensures below { IfSome result (λ port. port < self.now.ports) }
     {
-        for port in 0..self.ports() {
-            if port >= from && asks_for(self.asked(d, port), out) {
+        for port in from..self.ports() {
+            if asks_for(self.asked(d, port), out) {
                 return Some(port);
             }
         }

@@ -97,6 +97,20 @@ domain = [{name = \"a\", channels = 1}]\n\
 tile = [{at = 0, domains = [\"a\"]}]\n\
 range = [{tile = 0, first = 0x10, last = 0x1f}]\n";
 
+/// A link of it has more than 64 counts of credits.
+const MANY_CREDITS: &str = "version = 1\nshape = \"torus\"\ndims = [2]\nstages = 1\nbuffer = 1\n\
+domain = [{name = \"e0\", channels = 4}, {name = \"e1\", channels = 4}, {name = \"e2\", channels = 4}, {name = \"e3\", channels = 4}, \
+{name = \"e4\", channels = 4}, {name = \"e5\", channels = 4}, {name = \"e6\", channels = 4}, {name = \"e7\", channels = 4}, \
+{name = \"e8\", channels = 4}, {name = \"e9\", channels = 4}, {name = \"e10\", channels = 4}, {name = \"e11\", channels = 4}, \
+{name = \"e12\", channels = 4}, {name = \"e13\", channels = 4}, {name = \"e14\", channels = 4}, {name = \"e15\", channels = 4}]\n";
+
+/// What is told of each of its domains where no word is offered.
+const QUIET_REPORTS: &str =
+    "domain e0\nend 0 0 0 0\ndomain e1\nend 0 0 0 0\ndomain e2\nend 0 0 0 0\ndomain e3\nend 0 0 0 0\n\
+domain e4\nend 0 0 0 0\ndomain e5\nend 0 0 0 0\ndomain e6\nend 0 0 0 0\ndomain e7\nend 0 0 0 0\n\
+domain e8\nend 0 0 0 0\ndomain e9\nend 0 0 0 0\ndomain e10\nend 0 0 0 0\ndomain e11\nend 0 0 0 0\n\
+domain e12\nend 0 0 0 0\ndomain e13\nend 0 0 0 0\ndomain e14\nend 0 0 0 0\ndomain e15\nend 0 0 0 0\n";
+
 const SHARED_CORNERS: &str =
     "version = 1\nshape = \"mesh\"\ndims = [4, 4]\nstages = 1\nbuffer = 4\n\
 domain = [{name = \"d0\", channels = 1}, {name = \"d1\", channels = 1},\n\
@@ -782,6 +796,23 @@ end 3 0 2 0\n",
         assert_eq!(rt; out.as_str(), lines, "{words}");
         assert_eq!(rt; err.as_str(), "", "{words}");
     }
+    Ok(())
+}
+
+#[test]
+fn a_link_of_many_credits_is_accepted(rt: HostRuntime) -> Result<(), Fail> {
+    let content = Some(MANY_CREDITS.as_bytes());
+    let (status, out, err) = run(&rt, "check d", content, None, &[], &[])?;
+    assert!(rt; status == Status::Good);
+    assert_eq!(rt;
+        out.as_str(),
+        "accepted tiles 2 domains 16 places 768 hop 4\n"
+    );
+    assert_eq!(rt; err.as_str(), "");
+    let (status, out, err) = run(&rt, "simulate d t 5", content, Some(""), &[], &[])?;
+    assert!(rt; status == Status::Good);
+    assert_eq!(rt; out.as_str(), QUIET_REPORTS);
+    assert_eq!(rt; err.as_str(), "");
     Ok(())
 }
 

@@ -1,9 +1,9 @@
 -- A vector that is cut into lanes, and one place that is written.
-use Rattle.std.proofs.Common.{◌≡◌, ◌≢◌, ℕ, zero, suc, ◌+◌, ◌-◌, ◌<◌, ◌≤◌, List, [], ◌∷◌, ◌++◌, length, map, take, drop, replicate, get_or, set, get_or-set_same, get_or-set_other, ◌^◌, refl, sym, ap, ◌∙◌, arith}
+use Rattle.std.proofs.Common.{◌≡◌, ◌≢◌, ℕ, zero, suc, ◌+◌, ◌-◌, ◌<◌, ◌≤◌, List, [], ◌∷◌, ◌++◌, length, map, take, drop, replicate, append_assoc, get_or, set, get_or-set_same, get_or-set_other, ◌^◌, refl, sym, ap, ◌∙◌, arith}
 use Rattle.std.specs.Prelude.{Some, slice_get}
-use Rattle.std.proofs.lemmas.List.{take-set-le, drop-set-lt, drop-set-add, take-replicate, drop-replicate, get_or-take, get_or-drop, length-take, length-drop}
+use Rattle.std.proofs.lemmas.List.{take-set-le, drop-set-lt, drop-set-add, take-replicate, drop-replicate, get_or-take, get_or-drop, get_or_default, length-append, length-take, length-take-le, length-drop, take-take, drop-drop, drop-take, take-append-le, drop-append-le}
 use Rattle.std.proofs.lemmas.Option.{slice_get-get_or}
-use Rattle.std.proofs.Math.Seq.{take-set-lt}
+use Rattle.std.proofs.Math.Seq.{take-set-lt, take-append_seam, drop-append_seam}
 use Rattle.std.proofs.lemmas.List.FromFn.{get_or-map-range_with_len, length-map-range_with_len}
 use Rattle.std.proofs.lemmas.List.{length-replicate}
 use Rattle.std.proofs.Math.ListN.{length-set}
@@ -101,7 +101,7 @@ pub record IsAt {T : Type 0} (xs : List T) (cs ss : List ℕ) (d i k : ℕ) (v :
   pub inside : i < length (lane (cut xs cs) d)
   pub start : k ≡ start_of cs d
 
-lane-there : {T : Type 0} (xs : List T) (cs : List ℕ) (d : ℕ) (v : List (List T)) → cut xs cs ≡ v → d < length v
+pub lane-there : {T : Type 0} (xs : List T) (cs : List ℕ) (d : ℕ) (v : List (List T)) → cut xs cs ≡ v → d < length v
     → d < length cs
 lane-there xs cs d v view there = let a = ap length view in let b = length-cut xs cs in omega (arith, a, b, there)
 
@@ -159,6 +159,146 @@ pub new-cut : {T : Type 0} (x : T) (cs : List ℕ) → total cs < 2 ^ 32
 new-cut x cs few =
     let a = length-replicate (total cs) x in
     record { whole = sym a; few = omega (arith, a, few); begin = refl }
+
+-- ---- a whole lane
+
+pub cut-lane : {T : Type 0} (xs : List T) (cs : List ℕ) (d : ℕ) → d < length cs
+    → take (get_or cs d 0) (drop (start_of cs d) xs) ≡ lane (cut xs cs) d
+cut-lane xs [] d there = absurd (omega (arith, there))
+cut-lane xs (c ∷ cs) zero there = refl
+cut-lane xs (c ∷ cs) (suc d) there =
+    ap (λ ys. take (get_or cs d 0) ys) (sym (drop-drop (start_of cs d) c xs))
+    ∙ cut-lane (drop c xs) cs d (omega (arith, there))
+
+-- other items in place of lane d change that lane alone
+pub cut-fill : {T : Type 0} (xs ys : List T) (cs : List ℕ) (d : ℕ) → total cs ≡ length xs → d < length cs
+    → length ys ≡ get_or cs d 0
+    → cut (take (start_of cs d) xs ++ (ys ++ drop (start_of cs d + get_or cs d 0) xs)) cs ≡ set (cut xs cs) d ys
+cut-fill xs ys [] d whole there long = absurd (omega (arith, there))
+cut-fill xs ys (c ∷ cs) zero whole there long =
+    let front : take c (ys ++ drop c xs) ≡ ys =
+    ap (λ k. take k (ys ++ drop c xs)) (sym long) ∙ take-append_seam ys (drop c xs) in
+    let back : drop c (ys ++ drop c xs) ≡ drop c xs =
+    ap (λ k. drop k (ys ++ drop c xs)) (sym long) ∙ drop-append_seam ys (drop c xs) in
+    let end : 0 + c ≡ c = omega arith in
+    ap (λ k. cut (ys ++ drop k xs) (c ∷ cs)) end ∙ ap (λ zs. zs ∷ cut (drop c (ys ++ drop c xs)) cs) front
+    ∙ ap (λ zs. ys ∷ cut zs cs) back
+cut-fill xs ys (c ∷ cs) (suc d) whole there long =
+    let s : ℕ = start_of cs d in
+    let n : ℕ = get_or cs d 0 in
+    let rest : List _ = ys ++ drop (c + s + n) xs in
+    let within = start-le cs d (omega (arith, there)) in
+    let count = length-take-le (c + s) xs (omega (arith, within, whole)) in
+    let front : take c (take (c + s) xs ++ rest) ≡ take c xs =
+    take-append-le c (take (c + s) xs) rest (omega (arith, count)) ∙ take-take c (c + s) xs (omega arith) in
+    let sum : c + (s + n) ≡ c + s + n = omega arith in
+    let far : drop (c + s + n) xs ≡ drop (s + n) (drop c xs) =
+    ap (λ k. drop k xs) (sym sum) ∙ sym (drop-drop (s + n) c xs) in
+    let back : drop c (take (c + s) xs ++ rest) ≡ take s (drop c xs) ++ (ys ++ drop (s + n) (drop c xs)) =
+    drop-append-le c (take (c + s) xs) rest (omega (arith, count)) ∙ ap (λ zs. zs ++ rest) (drop-take c s xs)
+    ∙ ap (λ zs. take s (drop c xs) ++ (ys ++ zs)) far in
+    let left = length-drop c xs in
+    let same = cut-fill (drop c xs) ys cs d (omega (arith, whole, left)) (omega (arith, there)) long in
+    ap (λ zs. zs ∷ cut (drop c (take (c + s) xs ++ rest)) cs) front
+    ∙ ap (λ zs. take c xs ∷ cut zs cs) back ∙ ap (λ zs. take c xs ∷ zs) same
+
+pub lengths-cut : {T : Type 0} (xs : List T) (cs : List ℕ) → total cs ≡ length xs → map length (cut xs cs) ≡ cs
+lengths-cut xs [] whole = refl
+lengths-cut xs (c ∷ cs) whole =
+    let left = length-drop c xs in
+    ap (λ k. k ∷ map length (cut (drop c xs) cs)) (length-take-le c xs (omega (arith, whole)))
+    ∙ ap (λ ks. c ∷ ks) (lengths-cut (drop c xs) cs (omega (arith, whole, left)))
+
+-- a call at lane d, which begins at k and has n places
+pub record IsLane {T : Type 0} (xs : List T) (cs ss : List ℕ) (d k n : ℕ) (v : List (List T)) : Type 0 where
+  pub whole : IsCut xs cs ss
+  pub is : cut xs cs ≡ v
+  pub there : d < length cs
+  pub start : k ≡ start_of cs d
+  pub count : n ≡ get_or cs d 0
+
+pub is-lane : {T : Type 0} (xs : List T) (cs ss : List ℕ) (d k n : ℕ) (v : List (List T)) → IsCut xs cs ss
+    → cut xs cs ≡ v → d < length v → k ≡ get_or ss d k → n ≡ get_or cs d n → IsLane xs cs ss d k n v
+is-lane xs cs ss d k n v is view there at many =
+    let within = lane-there xs cs d v view there in
+    record {
+      whole = is;
+      is = view;
+      there = within;
+      start = start-is xs cs ss d k is within at;
+      count = many ∙ get_or_default cs d n 0 within;
+    }
+
+pub lane-within : {T : Type 0} {xs : List T} {cs ss : List ℕ} {d k n : ℕ} {v : List (List T)}
+    → IsLane xs cs ss d k n v → k + n ≤ length xs
+lane-within {xs} {cs} {ss} {d} a =
+    let b = start-le cs d a.there in
+    omega (arith, b, a.start, a.count, a.whole.whole)
+
+pub lane-value : {T : Type 0} {xs : List T} {cs ss : List ℕ} {d k n : ℕ} {v : List (List T)} → IsLane xs cs ss d k n v
+    → take n (drop k xs) ≡ lane v d
+lane-value {xs} {cs} {ss} {d} {k} {n} {v} a =
+    ap (λ m. take m (drop k xs)) a.count ∙ ap (λ m. take (get_or cs d 0) (drop m xs)) a.start ∙ cut-lane xs cs d a.there
+    ∙ ap (λ w. lane w d) a.is
+
+lane-length : {T : Type 0} {xs : List T} {cs ss : List ℕ} {d k n : ℕ} {v : List (List T)} → IsLane xs cs ss d k n v
+    → length (lane v d) ≡ n
+lane-length {xs} {cs} {ss} {d} {k} {n} {v} a =
+    let b = lane-within a in
+    let c = length-drop k xs in
+    ap length (sym (lane-value a)) ∙ length-take-le n (drop k xs) (omega (arith, b, c))
+
+pub lane-fill : {T : Type 0} {xs : List T} {cs ss : List ℕ} {d k n : ℕ} {v : List (List T)} (x : T)
+    → IsLane xs cs ss d k n v
+    → cut (take k xs ++ (replicate n x ++ drop (k + n) xs)) cs ≡ set v d (replicate (length (lane v d)) x)
+lane-fill {xs} {cs} {ss} {d} {k} {n} {v} x a =
+    let ys : List _ = replicate n x in
+    ap (λ m. cut (take m xs ++ (ys ++ drop (m + n) xs)) cs) a.start
+    ∙ ap (λ m. cut (take (start_of cs d) xs ++ (ys ++ drop (start_of cs d + m) xs)) cs) a.count
+    ∙ cut-fill xs ys cs d a.whole.whole a.there (length-replicate n x ∙ a.count) ∙ ap (λ w. set w d ys) a.is
+    ∙ ap (λ m. set v d (replicate m x)) (sym (lane-length a))
+
+pub filled-length : {T : Type 0} {xs : List T} {cs ss : List ℕ} {d k n : ℕ} {v : List (List T)} (x : T)
+    → IsLane xs cs ss d k n v → length (take k xs ++ (replicate n x ++ drop (k + n) xs)) ≡ length xs
+filled-length {xs} {k} {n} x a =
+    let b = lane-within a in
+    let front = length-take-le k xs (omega (arith, b)) in
+    let back = length-drop (k + n) xs in
+    let middle = length-replicate n x in
+    let inner = length-append (replicate n x) (drop (k + n) xs) in
+    let outer = length-append (take k xs) (replicate n x ++ drop (k + n) xs) in
+    omega (arith, b, front, back, middle, inner, outer)
+
+-- the items after a call at lane d that writes x everywhere there
+pub filled-items : {T : Type 0} {xs ps : List T} {cs ss : List ℕ} {d k n : ℕ} {v : List (List T)} (x : T) (ws : List T)
+    → IsLane xs cs ss d k n v → ps ≡ xs → ws ≡ take k ps ++ replicate n x ++ drop (k + n) ps
+    → ws ≡ take k xs ++ (replicate n x ++ drop (k + n) xs)
+filled-items {ps} {k} {n} x ws a same is =
+    is ∙ append_assoc (take k ps) (replicate n x) (drop (k + n) ps)
+    ∙ ap (λ qs. take k qs ++ (replicate n x ++ drop (k + n) qs)) same
+
+-- lanes of the same lengths have as many places, and are cut alike
+pub same-counts : {T : Type 0} {xs ys : List T} {cs es ss ts : List ℕ} {v w : List (List T)} → IsCut xs cs ss
+    → IsCut ys es ts → cut xs cs ≡ v → cut ys es ≡ w → map length v ≡ map length w → cs ≡ es
+same-counts {xs} {ys} {cs} {es} is other left right same =
+    sym (lengths-cut xs cs is.whole) ∙ ap (map length) left ∙ same ∙ ap (map length) (sym right)
+    ∙ lengths-cut ys es other.whole
+
+pub same-room : {T : Type 0} {xs ys : List T} {cs es ss ts : List ℕ} {v w : List (List T)} → IsCut xs cs ss
+    → IsCut ys es ts → cut xs cs ≡ v → cut ys es ≡ w → map length v ≡ map length w → length xs ≡ length ys
+same-room is other left right same =
+    sym is.whole ∙ ap total (same-counts is other left right same) ∙ other.whole
+
+pub copy-cut : {T : Type 0} {xs ys : List T} {cs es ss ts : List ℕ} {v w : List (List T)} → IsCut xs cs ss
+    → IsCut ys es ts → cut xs cs ≡ v → cut ys es ≡ w → map length v ≡ map length w → IsCut ys cs ss
+copy-cut is other left right same =
+    let e = same-room is other left right same in
+    record { whole = is.whole ∙ e; few = other.few; begin = is.begin }
+
+pub copy-value : {T : Type 0} {xs ys : List T} {cs es ss ts : List ℕ} {v w : List (List T)} → IsCut xs cs ss
+    → IsCut ys es ts → cut xs cs ≡ v → cut ys es ≡ w → map length v ≡ map length w → cut ys cs ≡ w
+copy-value {xs} {ys} is other left right same =
+    ap (λ ks. cut ys ks) (same-counts is other left right same) ∙ right
 
 -- ---- the frame rule, in terms of places
 

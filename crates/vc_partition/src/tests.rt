@@ -20,3 +20,31 @@ fn a_write_stays_in_its_lane(rt: HostRuntime) -> Result<(), Fail> {
     assert_eq!(&rt; *lanes.at(1, 0), 7);
     Ok(())
 }
+
+#[test]
+fn a_lane_is_read_as_a_slice(rt: HostRuntime) -> Result<(), Fail> {
+    let mut lanes = Lanes::new(rt.alloc(), &[2, 1, 3], 7u32)?;
+    lanes.set(2, 1, 9);
+    assert_eq!(&rt; lanes.lane(2), [7, 9, 7].as_slice());
+    Ok(())
+}
+
+#[test]
+fn a_fill_stays_in_its_lane(rt: HostRuntime) -> Result<(), Fail> {
+    let mut lanes = Lanes::new(rt.alloc(), &[2, 1, 3], 7u32)?;
+    lanes.fill(1, 9);
+    assert_eq!(&rt; lanes.lane(0), [7, 7].as_slice());
+    assert_eq!(&rt; lanes.lane(1), [9].as_slice());
+    assert_eq!(&rt; lanes.lane(2), [7, 7, 7].as_slice());
+    Ok(())
+}
+
+#[test]
+fn lanes_are_copied(rt: HostRuntime) -> Result<(), Fail> {
+    let mut lanes = Lanes::new(rt.alloc(), &[2, 1], 7u32)?;
+    let other = Lanes::new(rt.alloc(), &[2, 1], 9u32)?;
+    lanes.copy_from(&other);
+    assert_eq!(&rt; lanes.lane(0), [9, 9].as_slice());
+    assert_eq!(&rt; lanes.lane(1), [9].as_slice());
+    Ok(())
+}

@@ -23,7 +23,7 @@ use Rattle.vl_run.specs.Program.{assign_steps, next_steps, move_steps, stores_of
 use Rattle.vl_run.specs.State.{Code, Part, edged, part_settled, part_edged}
 use Rattle.vl_run.specs.Places.{ArePlaces}
 use Rattle.vl_run.specs.Rows.{Rows}
-use Rattle.vl_run.specs.Start.{HasRoom, IsWithin}
+use Rattle.vl_run.specs.Start.{AreInside, HasRoom, IsWithin}
 use Rattle.vl_run.specs.Stands.{StandsIn}
 use Rattle.vl_run.proofs.Acted.{acted, ran-acted, length-ran}
 use Rattle.vl_run.proofs.Narrow.{AreNarrow, are-narrow}
@@ -91,6 +91,7 @@ module _ (t : Name → ℕ) (l : Leaf) (js : List Join) (f : LeafFacts l) where
     settle = subst (λ k. AllByRecursion (IsWithin k) c.settle) (sym e) r.settle;
     next = subst (λ k. AllByRecursion (IsWithin k) c.next) (sym e) r.next;
     moves = subst (λ k. AllByRecursion (IsWithin k) c.moves) (sym e) r.moves;
+    inside = subst (λ k. AreInside k c) (sym e) r.inside;
   }
 
   -- an instance stands as it did when its nets are settled

@@ -1,6 +1,6 @@
 //! Rows of numbers.
 
-ghost use Rattle.std.specs.Prelude.{◌≡◌, IfOk, length, replicate, slice_index, slice_set};
+ghost use Rattle.std.specs.Prelude.{◌≡◌, ◌<◌, IfOk, length, replicate, slice_index, slice_set};
 
 use std::alloc::{AllocError, Global};
 use std::marker::Model;
@@ -43,6 +43,22 @@ impl Cells {
             Some(number) => *number,
             None => 0,
         }
+    }
+
+    /// The number at a place that there is.
+    pub(crate) fn at(&self, place: u32) -> u64
+        requires { place < length self.now }
+        ensures { result ≡ slice_index self.now place }
+    {
+        self.numbers[place as usize]
+    }
+
+    /// Makes this the number at a place that there is.
+    pub(crate) fn put(&mut self, place: u32, number: u64)
+        requires { place < length self.old }
+        ensures { self.new ≡ slice_set self.old place number }
+    {
+        self.numbers[place as usize] = number;
     }
 
     /// Makes this the number at a place.

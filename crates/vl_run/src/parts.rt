@@ -1,6 +1,6 @@
 //! All instances, and the top's nets between them.
 
-ghost use Rattle.std.specs.Prelude.{◌≡◌, List, [], ◌∷◌, ◌++◌, map, IfOk, OnOk};
+ghost use Rattle.std.specs.Prelude.{◌≡◌, List, [], ◌∷◌, ◌++◌, length, map, IfOk, OnOk};
 ghost use Rattle.std.specs.List.{AllByRecursion};
 ghost use Rattle.vl_tree.specs.declared.tree.TopItem.{TopItem};
 ghost use Rattle.vl_tree.specs.Read.{read_leaf, read_leaves};
@@ -11,7 +11,8 @@ ghost use Rattle.vl_run.specs.Emit.{place_in};
 ghost use Rattle.vl_run.specs.Program.{linked};
 ghost use Rattle.vl_run.specs.State.{part_edged, shown_by};
 ghost use Rattle.vl_run.specs.Shown.{part_after, IsRefreshed, AllRefreshed};
-ghost use Rattle.vl_run.specs.Packed.{all_unpacked, Packs};
+ghost use Rattle.vl_run.specs.Packed.{all_unpacked, AreBelow, FitIn, Packs};
+ghost use Rattle.vl_run.specs.Start.{AreInside, HasPlaces};
 ghost use Rattle.vl_run.specs.Put.{part_with, parts_with};
 ghost use Rattle.vl_run.specs.Fresh.{IsFresh, AllFresh, HasLeaf};
 
@@ -43,6 +44,7 @@ impl Model for Part {
 impl Part {
     /// Takes the steps in order.
     fn take(&mut self, list: &[Packed])
+        requires { AreBelow (length self.old.kept.nets) list.now }
         ensures { self.new ≡ part_after (all_unpacked list.now) self.old }
     {
         self.state.take(list);
@@ -50,7 +52,9 @@ impl Part {
 
     /// What its program does, packed.
     fn lists(&self, alloc: Global) -> Result<Lists, AllocError>
-        ensures { IfOk result (λ l. Packs self.now.code l) }
+        requires { AreInside (length self.now.kept.nets) self.now.code }
+        ensures packs { IfOk result (λ l. Packs self.now.code l) }
+        ensures fits { IfOk result (λ l. FitIn (length self.now.kept.nets) l) }
     {
         let lists = Lists::new(alloc, &self.program, self.state.nets.len())?;
         Ok(lists)
@@ -58,7 +62,8 @@ impl Part {
 
     /// One clock edge, where the top's nets have these numbers.
     fn edge(&mut self, lists: &Lists, tops: &Cells)
-        requires { Packs self.old.code lists.now }
+        requires packs { Packs self.old.code lists.now }
+        requires fits { FitIn (length self.old.kept.nets) lists.now }
         ensures { self.new ≡ part_edged tops.now self.old }
     {
         self.state.edge(&self.program, lists, tops);
@@ -88,18 +93,20 @@ pub(crate) struct Instance {
 
 impl Model for Instance {
     ghost use Rattle.vl_run.specs.State.{Part};
-    ghost use Rattle.vl_run.specs.Packed.{Packs};
+    ghost use Rattle.vl_run.specs.Packed.{FitIn, Packs};
+    ghost use Rattle.std.specs.Prelude.{length};
 
     ghost Value = { Part };
 
     ghost view = { λ i. i.part };
 
-    ghost invariant = { λ i. Packs i.part.code i.lists };
+    ghost invariant = { λ i. Packs i.part.code i.lists × FitIn (length i.part.kept.nets) i.lists };
 }
 
 impl Instance {
     /// The instance of the part.
     fn new(alloc: Global, part: Part) -> Result<Instance, AllocError>
+        requires { AreInside (length part.kept.nets) part.code }
         ensures { IfOk result (λ i. i ≡ part) }
     {
         let lists = part.lists(alloc)?;
@@ -137,6 +144,7 @@ impl Instance {
 
 /// The instances of these parts.
 pub(crate) fn instances_of(alloc: Global, parts: Vec<Part>) -> Result<Vec<Instance>, AllocError>
+    requires { AllByRecursion HasPlaces parts.items }
     ensures { IfOk result (λ v. v.items ≡ parts.items) }
 {
     let mut all = Vec::new(alloc);

@@ -1,22 +1,22 @@
 //! The numbers of an instance, and an edge of it.
 
-ghost use Rattle.std.specs.Prelude.{◌≡◌, ◌≤◌, ◌∷◌, [], map, IfOk};
+ghost use Rattle.std.specs.Prelude.{◌≡◌, ◌<◌, ◌≤◌, ◌∷◌, [], length, map, IfOk};
 ghost use Rattle.std.specs.List.{AllByRecursion};
 ghost use Rattle.vl_tree.specs.Read.{read_leaf};
 ghost use Rattle.vl_rules.specs.Lines.{lines_of, line_of};
 ghost use Rattle.vl_run.specs.Emit.{place_in};
-ghost use Rattle.vl_run.specs.Start.{IsWithin, words_of, empty_memory, IsStart};
+ghost use Rattle.vl_run.specs.Start.{IsInside, words_of, empty_memory, IsStart};
 ghost use Rattle.vl_run.specs.Program.{stored_in, linked};
 ghost use Rattle.vl_run.specs.Put.{kept_with};
-ghost use Rattle.vl_run.specs.Shown.{kept_after};
+ghost use Rattle.vl_run.specs.Shown.{kept_after, operands};
 ghost use Rattle.vl_run.specs.State.{fed_by, stored_by, edged};
-ghost use Rattle.vl_run.specs.Packed.{all_unpacked, Packs};
+ghost use Rattle.vl_run.specs.Packed.{all_unpacked, AreBelow, FitIn, Packs};
 
 use crate::cells::Cells;
 use crate::emit::next;
 use crate::packed::{Lists, Packed, pack, run};
 use crate::program::{Link, Program, Store, resets, scope_of};
-use crate::step::Step;
+use crate::step::{Action, Step};
 use std::alloc::{AllocError, Global};
 use std::marker::Model;
 use vl_rules::{Known, Line, Module};
@@ -68,17 +68,59 @@ fn store(stores: &[Store], nets: &Cells, memories: &mut [Cells])
     }
 }
 
-/// A length in which all the steps write, and at least this one.
+/// A length that has the place, and at least this one.
+fn reach(place: usize, least: usize) -> Result<usize, AllocError>
+    ensures least { IfOk result (λ n. least ≤ n) }
+    ensures place { IfOk result (λ n. place < n) }
+{
+    if least <= place {
+        next(place)
+    } else {
+        Ok(least)
+    }
+}
+
+/// A length that has the places which the action reads, and at least this one.
+fn reading_room(action: Action, least: usize) -> Result<usize, AllocError>
+    ensures least { IfOk result (λ n. least ≤ n) }
+    ensures places { IfOk result (λ n. AllByRecursion (λ p. p < n) (operands action)) }
+{
+    match action {
+        Action::Number(_) => Ok(least),
+        Action::Copy(from) => reach(from, least),
+        Action::Bits { from, .. } => reach(from, least),
+        Action::Not { from, .. } => reach(from, least),
+        Action::Two { left, right, .. } => {
+            let one = reach(left, least)?;
+            reach(right, one)
+        }
+        Action::Choose {
+            test,
+            first,
+            second,
+        } => {
+            let one = reach(test, least)?;
+            let two = reach(first, one)?;
+            reach(second, two)
+        }
+        Action::Load { index, .. } => reach(index, least),
+        Action::Join { front, back, .. } => {
+            let one = reach(front, least)?;
+            reach(back, one)
+        }
+    }
+}
+
+/// A length below which all the steps write and read, and at least this one.
 #[tactic(auto, using(crate::proofs::Room::rooms))]
 fn room(steps: &[Step], least: usize) -> Result<usize, AllocError>
     ensures least { IfOk result (λ n. least ≤ n) }
-    ensures steps { IfOk result (λ n. AllByRecursion (IsWithin n) steps.now) }
+    ensures steps { IfOk result (λ n. AllByRecursion (IsInside n) steps.now) }
 {
     let mut most = least;
     for step in steps {
-        if most <= step.to {
-            most = next(step.to)?;
-        }
+        let written = reach(step.to, most)?;
+        most = reading_room(step.action, written)?;
     }
     Ok(most)
 }
@@ -132,6 +174,7 @@ impl State {
 
     /// Takes these steps, in order.
     pub(crate) fn take(&mut self, list: &[Packed])
+        requires { AreBelow (length self.old.nets) list.now }
         ensures { self.new ≡ kept_after (all_unpacked list.now) self.old }
     {
         run(list, &mut self.nets, self.memories.as_slice());
@@ -150,7 +193,8 @@ impl State {
 
     /// One clock edge, where the top's nets have these numbers.
     pub(crate) fn edge(&mut self, program: &Program, lists: &Lists, tops: &Cells)
-        requires { Packs program.now lists.now }
+        requires packs { Packs program.now lists.now }
+        requires fits { FitIn (length self.old.nets) lists.now }
         ensures { self.new ≡ edged program.now tops.now self.old }
     {
         self.feed(program, tops);

@@ -4,14 +4,14 @@ use Rattle.router_core.specs.Parts.{Parts}
 use Rattle.router_core.specs.Pulses.{ArePulses}
 use Rattle.router_core.specs.Sizes.{IsMade}
 use Rattle.router_core.specs.Shown.{Shows}
-use Rattle.router_core.proofs.Cleared.{clear_parts, clear-made, clear-quiet, clear-own, clear-others}
+use Rattle.router_core.proofs.Cleared.{clear_parts, clear-made, clear-own, clear-others}
 use Rattle.router_core.proofs.router.Router.clear.Goals as goal
 
 pub returns-clause-rest : goal.returns-clause-rest
 returns-clause-rest c = λ i. let r : Parts = c.self.view_is i in clear_parts r c.clear_ports.new.switch c.clear_ports.new.pulses
 
 pub returns-clause-quiet : goal.returns-clause-quiet
-returns-clause-quiet c = clear-quiet c.args.plan.now c.args.d (the_view c.self.inside) c.clear_ports.new.switch c.clear_ports.new.pulses c.clear_ports.ensures c.requires.domain
+returns-clause-quiet c = c.clear_ports.ensures.asked
 
 pub returns-clause-own : goal.returns-clause-own
 returns-clause-own c = λ s shown.

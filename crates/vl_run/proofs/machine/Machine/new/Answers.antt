@@ -8,6 +8,7 @@ use Rattle.vl_run.specs.Fresh.{IsBegun}
 use Rattle.vl_run.specs.Running.{running}
 use Rattle.vl_run.specs.Shown.{AllRefreshed}
 use Rattle.vl_run.specs.Stands.{Running, Stands}
+use Rattle.vl_run.proofs.Packing.{fresh-places}
 use Rattle.vl_run.proofs.Whole.{reset-parts}
 use Rattle.vl_run.proofs.Refreshed.{stands-again}
 use Rattle.vl_run.proofs.machine.Machine.new.Goals as goal
@@ -24,3 +25,8 @@ returns-clause-reset c =
     subst (λ (e : Design). Stands r (inside_reset e.leaves e.top.items (λ i n k. 0))) (sym c.refresh.ensures.design)
     (stands-again d sound begun.top begun.places (inside_reset d.leaves d.top.items (λ i n k. 0)) b.parts.items (reset-parts d sound b.parts.items b.tops b.ports.items begun) b.tops b.ports.items begun.room begun.named
     r c.refresh.ensures.design c.refresh.ensures.ports parts c.refresh.ensures.tops)
+
+pub instances_of-requires : goal.instances_of-requires
+instances_of-requires c =
+    let d : Design = read_design c.design.result.now in
+    fresh-places c.in_ok-begun.ensures.top d.leaves d.top.items c.in_ok-begun.begun.parts.items c.in_ok-begun.ensures.fresh
